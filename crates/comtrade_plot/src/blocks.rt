@@ -54,6 +54,7 @@ impl<A: Allocator> Samples<A> {
         if self.is_wide {
             self.bytes.extend_from_slice(&sample.to_le_bytes())
         } else {
+            // (`is_wide` says that a sample may not fit; the least number marks it as missing)
             let short = i16::try_from(sample).unwrap_or(i16::MIN);
             self.bytes.extend_from_slice(&short.to_le_bytes())
         }
@@ -67,8 +68,8 @@ pub(crate) fn gather_samples<A: Allocator>(
     first: usize,
 ) -> Result<(), AllocError> {
     for row in rows {
-        for (i, channel) in channels.iter_mut().enumerate() {
-            channel.add(reading_at(row, first.saturating_add(i)))?;
+        for (at, channel) in (first..=usize::MAX).zip(channels.iter_mut()) {
+            channel.add(reading_at(row, at))?;
         }
     }
     Ok(())
@@ -99,17 +100,15 @@ pub(crate) fn gather_bits<A: Allocator>(
 ) -> Result<(), AllocError> {
     let mut mask = 1u8;
     for row in rows {
-        for (i, contact) in contacts.iter_mut().enumerate() {
-            if bit_at(row, first.saturating_add(i)) {
+        for (at, contact) in (first..=usize::MAX).zip(contacts.iter_mut()) {
+            if bit_at(row, at) {
                 contact.byte |= mask;
             }
         }
         if mask == 128 {
             end_bytes(contacts)?;
-            mask = 1;
-        } else {
-            mask = mask.saturating_mul(2);
         }
+        mask = mask.rotate_left(1);
     }
     end_bytes(contacts)
 }
@@ -120,7 +119,8 @@ pub(crate) fn times_of_rows<A: Allocator + Copy>(
     alloc: A,
     times: &[Option<i64>],
 ) -> Result<Vec<u8, A>, AllocError> {
-    let mut bytes = Vec::with_capacity(alloc, times.len().saturating_mul(8))?;
+    let size = times.len().checked_mul(8).ok_or(AllocError)?;
+    let mut bytes = Vec::with_capacity(alloc, size)?;
     let mut last: Option<i64> = None;
     for time in times {
         let time = match (*time, last) {

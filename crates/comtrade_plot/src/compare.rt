@@ -9,9 +9,9 @@ use crate::head::put_tag;
 use crate::joint::{drawn_of, own_panels, panels_beside, shifted};
 use crate::layers::Layer;
 use crate::layout::panel_count;
-use crate::plan::{LEFT, course_of, partners_of, places_of};
+use crate::plan::{Down, LEFT, course_of, partners_of, places_of};
 use crate::plot::PlotOptions;
-use crate::record::{Part, Record, Timed, USUAL_CYCLE, chart_of, part_in, record_of};
+use crate::record::{Part, Record, Timed, chart_of, part_in, record_of};
 use crate::sheet::Sheet;
 use comtrade_format::File;
 use comtrade_io::ToolFault;
@@ -66,40 +66,40 @@ impl Refusal {
 /// below.
 #[derive(Clone, Copy)]
 struct Places {
-    names: u32,
-    panels: u32,
-    contacts: u32,
-    others: u32,
-    times: u32,
+    names: Down,
+    panels: Down,
+    contacts: Down,
+    others: Down,
+    times: Down,
 }
 
 fn places_in<A: Allocator>(beside: &Beside<'_, A>, bars: &[bool], other_bars: &[bool]) -> Places {
-    let names = 1380u32;
-    let panels = names.saturating_add(40);
-    let contacts = pairs_end(beside, panels).saturating_add(120);
-    let others = contacts.saturating_add(contacts_height(beside.one, bars));
-    let end = others.saturating_add(contacts_height(beside.other, other_bars));
+    let names = Down::at(1380);
+    let panels = names.below(40);
+    let contacts = pairs_end(beside, panels).below(120);
+    let others = contacts.after(contacts_height(beside.one, bars));
+    let end = others.after(contacts_height(beside.other, other_bars));
     Places {
         names,
         panels,
         contacts,
         others,
-        times: end.saturating_add(170),
+        times: end.below(170),
     }
 }
 
 /// The times above and below, the cycles, and the lengths of gaps.
 fn put_scales<A: Allocator>(sheet: &mut Sheet<A>, beside: &Beside<'_, A>, places: Places) {
     let one = beside.one;
-    put_gap_names(sheet, one, places.names.saturating_sub(150));
+    put_gap_names(sheet, one, places.names.above(150));
     put_times(sheet, one, places.names);
     put_times_name(sheet, one, places.names);
     put_times(sheet, one, places.times);
     put_times_name(sheet, one, places.times);
-    put_cycles(sheet, one, places.times.saturating_add(70));
+    put_cycles(sheet, one, places.times.below(70));
     sheet.label(
         LEFT,
-        places.times.saturating_add(420),
+        places.times.below(420),
         " class=\"f\" font-size=\"10.5\" fill=\"#55595f\"",
         "peak, A \u{2212} B: of what is drawn; rms: of the cycle that ends one cycle before the fault inception (else the trigger) \u{2192} of the first whole cycle after it",
     );
@@ -121,9 +121,9 @@ fn put_picture<A: Allocator + Copy>(
     let places = places_in(beside, &bars, &other_bars);
     let has_one = singles_in(beside.one) != 0;
     let has_other = !options.is_chosen && singles_in(beside.other) != 0;
-    let first = places.times.saturating_add(590);
-    let second = first.saturating_add(160 * u32::from(has_one));
-    let end = second.saturating_add(160 * u32::from(has_other));
+    let first = places.times.below(590);
+    let second = if has_one { first.below(160) } else { first };
+    let end = if has_other { second.below(160) } else { second };
     put_tag(sheet, options.picture, end);
     put_compare_head(sheet, beside);
     put_pairs(sheet, beside, places.panels);
@@ -160,7 +160,7 @@ fn put_over<'a, A: Allocator + Copy>(
         times: &records.0.kept,
         moments: &moments,
         places: &places,
-        most: records.0.cycle.unwrap_or(USUAL_CYCLE) / 8,
+        most: records.0.cycle_or_usual().nanos.unsigned_abs() / 8,
         laid: Laid {
             by: options.by,
             is_part,
@@ -168,6 +168,15 @@ fn put_over<'a, A: Allocator + Copy>(
         },
     };
     put_picture(sheet, &beside, options)
+}
+
+/// How many nanoseconds the second trigger is after the first, where the records are aligned by
+/// their instants; None where that is no number of 64 bits, more than 292 years.
+fn shift_of(by: By, from: i64, to: i64) -> Option<i64> {
+    match by {
+        By::Trigger => Some(0),
+        By::Instant => to.checked_sub(from)?.checked_mul(1000),
+    }
 }
 
 /// Prints a picture of two records; or returns why they cannot be compared, and prints nothing.
@@ -186,9 +195,8 @@ pub fn compare_over<A: Allocator + Copy, W: Write>(
         (_, 0) => return Ok(Some(Refusal::UntriggeredOther)),
         _ => {}
     }
-    let shift = match options.by {
-        By::Trigger => 0,
-        By::Instant => to.saturating_sub(from).saturating_mul(1000),
+    let Some(shift) = shift_of(options.by, from, to) else {
+        return Ok(Some(Refusal::Apart));
     };
     let mut first = record_of(alloc, one)?;
     first.layer = Layer::One;

@@ -3,12 +3,12 @@
 use crate::compare::By;
 use crate::differing::{Beside, is_exact};
 use crate::head::{STYLE, put_facts, put_station};
-use crate::instant::{put_range, put_span};
+use crate::instant::{put_duration, put_range};
 use crate::layers::Layer;
 use crate::layout::{Chart, NOWHERE, panel_count};
 use crate::legend::put_mark;
 use crate::phases::Hue;
-use crate::plan::LEFT;
+use crate::plan::{Down, LEFT};
 use crate::sheet::Sheet;
 use dfr_channels::AnalogChannel;
 use std::alloc::Allocator;
@@ -33,7 +33,7 @@ fn put_description<A: Allocator>(sheet: &mut Sheet<A>, beside: &Beside<'_, A>) {
 }
 
 /// A record's letter with its trace's style, its names, and when its trigger was.
-fn put_record<A: Allocator>(sheet: &mut Sheet<A>, chart: &Chart<'_, A>, letter: &str, y: u32) {
+fn put_record<A: Allocator>(sheet: &mut Sheet<A>, chart: &Chart<'_, A>, letter: &str, y: Down) {
     let file = chart.file;
     sheet.label(LEFT, y, " font-size=\"15\"", letter);
     let layer = chart.layer;
@@ -41,11 +41,11 @@ fn put_record<A: Allocator>(sheet: &mut Sheet<A>, chart: &Chart<'_, A>, letter: 
     sheet.begin_text(LEFT + 420, y, " font-size=\"15\"");
     put_station(sheet, &file.head);
     sheet.end_text();
-    put_facts(sheet, file, y.saturating_add(160));
+    put_facts(sheet, file, y.below(160));
 }
 
 /// How the records are aligned.
-fn put_alignment<A: Allocator>(sheet: &mut Sheet<A>, beside: &Beside<'_, A>, y: u32) {
+fn put_alignment<A: Allocator>(sheet: &mut Sheet<A>, beside: &Beside<'_, A>, y: Down) {
     sheet.begin_text(LEFT, y, SMALL);
     let shift = beside.other.trigger;
     match beside.laid.by {
@@ -55,7 +55,7 @@ fn put_alignment<A: Allocator>(sheet: &mut Sheet<A>, beside: &Beside<'_, A>, y: 
             if shift == 0 {
                 sheet.text("at the same instant");
             } else {
-                put_span(sheet, shift.saturating_abs());
+                put_duration(sheet, shift.unsigned_abs());
                 sheet.text(if shift < 0 {
                     " before that of A"
                 } else {
@@ -68,7 +68,7 @@ fn put_alignment<A: Allocator>(sheet: &mut Sheet<A>, beside: &Beside<'_, A>, y: 
 }
 
 /// How differences are calculated, and which times are drawn.
-fn put_method<A: Allocator>(sheet: &mut Sheet<A>, beside: &Beside<'_, A>, y: u32) {
+fn put_method<A: Allocator>(sheet: &mut Sheet<A>, beside: &Beside<'_, A>, y: Down) {
     sheet.begin_text(LEFT, y, SMALL);
     sheet.text(if is_exact(beside) {
         "A \u{2212} B at A's rows; B has a row at each of these instants"
@@ -95,10 +95,10 @@ pub(crate) fn put_compare_head<A: Allocator>(sheet: &mut Sheet<A>, beside: &Besi
     put_description(sheet, beside);
     sheet.text(STYLE);
     sheet.text("<rect class=\"p\" width=\"100%\" height=\"100%\" fill=\"#ffffff\"/>\n");
-    put_record(sheet, beside.one, "A", 230);
-    put_record(sheet, beside.other, "B", 620);
-    put_alignment(sheet, beside, 960);
-    put_method(sheet, beside, 1100);
+    put_record(sheet, beside.one, "A", Down::at(230));
+    put_record(sheet, beside.other, "B", Down::at(620));
+    put_alignment(sheet, beside, Down::at(960));
+    put_method(sheet, beside, Down::at(1100));
 }
 
 /// Whether one of these channels has this name.
@@ -113,13 +113,8 @@ fn is_named<A: Allocator>(channels: &[AnalogChannel<A>], id: &[u8]) -> bool {
 
 /// How many channels are not drawn.
 pub(crate) fn singles_in<A: Allocator>(chart: &Chart<'_, A>) -> usize {
-    let mut count = 0usize;
-    for panel in chart.panels {
-        if *panel == NOWHERE {
-            count = count.saturating_add(1);
-        }
-    }
-    count
+    let panels = chart.panels.iter();
+    panels.filter(|panel| **panel == NOWHERE).count()
 }
 
 /// The channels that only one of two records has, at a vertical position, as far as there is room.
@@ -128,19 +123,22 @@ pub(crate) fn put_singles<A: Allocator + Copy>(
     sheet: &mut Sheet<A>,
     one: &Chart<'_, A>,
     other: &Chart<'_, A>,
-    y: u32,
+    y: Down,
 ) {
     let (file, others) = (one.file, other.file);
     let mut names = sheet.another();
     let mut left = singles_in(one);
     for (channel, panel) in file.head.analog.items().iter().zip(one.panels.iter()) {
-        if *panel == NOWHERE && names.len() < NAMED {
+        if left == 0 || NAMED <= names.len() {
+            break;
+        }
+        if *panel == NOWHERE {
             names.text(if names.len() == 0 { "" } else { ", " });
             names.name(channel.id.items());
             if is_named(others.head.analog.items(), channel.id.items()) {
                 names.text(" (another unit, side, phase or component)");
             }
-            left = left.saturating_sub(1);
+            left -= 1;
         }
     }
     sheet.begin_text(LEFT, y, SMALL);

@@ -7,27 +7,25 @@ use crate::layout::{
 };
 use crate::legend::{put_legend, put_small};
 use crate::panels::put_panel;
-use crate::plan::Differences;
+use crate::plan::{Differences, Down};
 use crate::quantity::put_quantity;
 use crate::sheet::Sheet;
 use std::alloc::Allocator;
 
 /// The height of a panel without its title: both names, and the differences.
-pub(crate) fn pair_height<A: Allocator>(beside: &Beside<'_, A>, number: usize) -> u32 {
+pub(crate) fn pair_height<A: Allocator>(beside: &Beside<'_, A>, number: usize) -> Down {
     let count = panel_count(beside.one.panels);
     legends_height(beside.one, number)
-        .saturating_add(legends_height(beside.other, number))
-        .saturating_add(2 * LINE_HEIGHT + 40)
+        .after(legends_height(beside.other, number))
+        .below(2 * LINE_HEIGHT + 40)
         .max(least_height(count))
 }
 
 /// Where the panels end that begin here.
-pub(crate) fn pairs_end<A: Allocator>(beside: &Beside<'_, A>, top: u32) -> u32 {
+pub(crate) fn pairs_end<A: Allocator>(beside: &Beside<'_, A>, top: Down) -> Down {
     let mut end = top;
     for number in 0..panel_count(beside.one.panels) {
-        end = end
-            .saturating_add(TITLE)
-            .saturating_add(pair_height(beside, number));
+        end = end.below(TITLE).after(pair_height(beside, number));
     }
     end
 }
@@ -38,7 +36,7 @@ fn put_differences<A: Allocator + Copy>(
     sheet: &mut Sheet<A>,
     differences: Differences,
     unit: &[u8],
-    y: u32,
+    y: Down,
 ) {
     let mut first = sheet.another();
     let mut second = sheet.another();
@@ -56,7 +54,7 @@ fn put_differences<A: Allocator + Copy>(
         None => first.text("A \u{2212} B: no common instants"),
     }
     put_small(sheet, y, &first);
-    put_small(sheet, y.saturating_add(LINE_HEIGHT), &second);
+    put_small(sheet, y.below(LINE_HEIGHT), &second);
 }
 
 /// The legend of a panel: both channels' names, peaks and rms values, and how much they differ.
@@ -64,13 +62,13 @@ fn put_pair_legend<A: Allocator + Copy>(
     sheet: &mut Sheet<A>,
     beside: &Beside<'_, A>,
     number: usize,
-    top: u32,
+    top: Down,
 ) {
     let channel = channel_in(beside.one, number);
     let (Some(channel), Some(partner)) = (channel, channel_in(beside.other, number)) else {
         return;
     };
-    let y = put_legend(sheet, beside.one, channel, top.saturating_add(90));
+    let y = put_legend(sheet, beside.one, channel, top.below(90));
     let y = put_legend(sheet, beside.other, partner, y);
     let file = beside.one.file;
     if let Some(named) = file.head.analog.items().get(channel) {
@@ -84,12 +82,12 @@ fn put_pair_legend<A: Allocator + Copy>(
 pub(crate) fn put_pairs<A: Allocator + Copy>(
     sheet: &mut Sheet<A>,
     beside: &Beside<'_, A>,
-    top: u32,
+    top: Down,
 ) {
     let mut y = top;
     for number in 0..panel_count(beside.one.panels) {
         let band = Band {
-            top: y.saturating_add(TITLE),
+            top: y.below(TITLE),
             height: pair_height(beside, number),
         };
         put_panel(sheet, beside.one, Some(beside.other), number, band);

@@ -4,7 +4,7 @@ use crate::axis::{put_gaps, put_grid, put_trigger};
 use crate::layers::Layer;
 use crate::layout::{Band, CONTACT, Chart, contact_height};
 use crate::legend::{NAMES, put_name};
-use crate::plan::{LEFT, RIGHT};
+use crate::plan::{Down, LEFT, RIGHT};
 use crate::rows::bit_at;
 use crate::sheet::Sheet;
 use comtrade_format::Row;
@@ -63,32 +63,30 @@ pub(crate) fn bars_of<A: Allocator + Copy>(
 }
 
 /// How many have no mark.
-fn unmarked(marks: &[bool]) -> u32 {
-    let mut count = 0u32;
-    for mark in marks {
-        if !*mark {
-            count = count.saturating_add(1);
-        }
-    }
-    count
+fn unmarked(marks: &[bool]) -> usize {
+    marks.iter().filter(|mark| !**mark).count()
 }
 
 /// The height of the bars of status channels.
-fn bars_height<A: Allocator>(chart: &Chart<'_, A>, bars: &[bool]) -> u32 {
+fn bars_height<A: Allocator>(chart: &Chart<'_, A>, bars: &[bool]) -> Down {
     let file = chart.file;
-    let mut height = 0u32;
+    let mut height = Down::at(0);
     for (channel, has_bar) in file.head.status.items().iter().zip(bars.iter()) {
         if *has_bar {
-            height = height.saturating_add(contact_height(channel));
+            height = height.after(contact_height(channel));
         }
     }
     height
 }
 
 /// The height of the bars of status channels, with the line for the others.
-pub(crate) fn contacts_height<A: Allocator>(chart: &Chart<'_, A>, bars: &[bool]) -> u32 {
-    let others = unmarked(bars).min(1);
-    bars_height(chart, bars).saturating_add(others.saturating_mul(CONTACT))
+pub(crate) fn contacts_height<A: Allocator>(chart: &Chart<'_, A>, bars: &[bool]) -> Down {
+    let height = bars_height(chart, bars);
+    if unmarked(bars) == 0 {
+        height
+    } else {
+        height.below(CONTACT)
+    }
 }
 
 /// A bar that is not drawn yet: where it begins, and where it ends so far.
@@ -99,11 +97,12 @@ struct Bar {
     is_open: bool,
 }
 
-fn put_bar<A: Allocator>(sheet: &mut Sheet<A>, bar: Option<Bar>, top: u32) {
+/// A bar is at least half a pixel wide, and ends within the panels.
+fn put_bar<A: Allocator>(sheet: &mut Sheet<A>, bar: Option<Bar>, top: Down) {
     if let Some(bar) = bar {
-        let room = RIGHT.saturating_sub(bar.from).max(5);
-        let width = bar.to.saturating_sub(bar.from).max(5).min(room);
-        sheet.point("M", bar.from.min(RIGHT - 5), top.saturating_add(30));
+        let from = bar.from.min(RIGHT - 5);
+        let width = bar.to.clamp(from + 5, RIGHT) - from;
+        sheet.point("M", from, top.below(30).tenths);
         sheet.along("h", width);
         sheet.along("v12h-", width);
         sheet.text("z");
@@ -112,7 +111,7 @@ fn put_bar<A: Allocator>(sheet: &mut Sheet<A>, bar: Option<Bar>, top: u32) {
 
 /// The bars of a status channel, from each row where its bit becomes 1 to the next one where it
 /// becomes 0; none over a gap. Bars less than half a pixel apart are joined.
-fn put_bars<A: Allocator>(sheet: &mut Sheet<A>, chart: &Chart<'_, A>, top: u32, channel: usize) {
+fn put_bars<A: Allocator>(sheet: &mut Sheet<A>, chart: &Chart<'_, A>, top: Down, channel: usize) {
     let file = chart.file;
     let rows = file.rows.items();
     let mut bar: Option<Bar> = None;
@@ -124,7 +123,7 @@ fn put_bars<A: Allocator>(sheet: &mut Sheet<A>, chart: &Chart<'_, A>, top: u32, 
         };
         let is_one = bit_at(row, channel);
         bar = match bar {
-            Some(bar) if bar.is_open || is_one && x <= bar.to.saturating_add(5) => Some(Bar {
+            Some(bar) if bar.is_open || is_one && x.max(bar.to) - bar.to <= 5 => Some(Bar {
                 from: bar.from,
                 to: x,
                 is_open: is_one,
@@ -149,12 +148,12 @@ fn put_contact<A: Allocator>(
     chart: &Chart<'_, A>,
     channel: &StatusChannel<A>,
     at: usize,
-    top: u32,
+    top: Down,
 ) {
     let tag = chart.layer.tag();
-    put_name(sheet, tag, channel.id.items(), b"", top.saturating_add(130));
+    put_name(sheet, tag, channel.id.items(), b"", top.below(130));
     sheet.text("<path class=\"e\" stroke=\"#c4c8cc\" d=\"");
-    sheet.point("M", LEFT, top.saturating_add(150));
+    sheet.point("M", LEFT, top.below(150).tenths);
     sheet.along("H", RIGHT);
     sheet.text(if channel.normal {
         "\"/>\n<path class=\"k\" fill=\"#8fb79a\" d=\""
@@ -165,37 +164,42 @@ fn put_contact<A: Allocator>(
     sheet.text("\"/>\n");
 }
 
+/// How many of the status channels that do not change have this bit.
+fn unchanged_at(bars: &[bool], bits: &[bool], state: bool) -> u64 {
+    let states = bars.iter().zip(bits.iter());
+    states
+        .filter(|(has_bar, bit)| !**has_bar && **bit == state)
+        .count() as u64
+}
+
 /// The number of status channels that do not change, and their states.
 fn put_unchanged<A: Allocator>(
     sheet: &mut Sheet<A>,
     chart: &Chart<'_, A>,
     bars: &[bool],
-    top: u32,
+    top: Down,
 ) {
     let Some(first) = first_drawn(chart) else {
         return;
     };
-    let mut ones = 0u64;
-    let mut zeros = 0u64;
-    for (has_bar, bit) in bars.iter().zip(first.bits.items().iter()) {
-        match (*has_bar, *bit) {
-            (false, true) => ones = ones.saturating_add(1),
-            (false, false) => zeros = zeros.saturating_add(1),
-            _ => {}
-        }
-    }
-    sheet.begin_text(NAMES, top.saturating_add(130), "");
+    let bits = first.bits.items();
+    let all = bars
+        .iter()
+        .zip(bits.iter())
+        .filter(|(has_bar, _)| !**has_bar);
+    let all = all.count();
+    sheet.begin_text(NAMES, top.below(130), "");
     sheet.text(chart.layer.tag());
-    sheet.number(ones.saturating_add(zeros));
-    let is_short = chart.layer == Layer::Alone && ones.saturating_add(zeros) < 100;
+    sheet.number(all as u64);
+    let is_short = chart.layer == Layer::Alone && all < 100;
     sheet.text(if is_short {
         " contacts unchanged: "
     } else {
         " unchanged: "
     });
-    sheet.number(ones);
+    sheet.number(unchanged_at(bars, bits, true));
     sheet.text(" at 1, ");
-    sheet.number(zeros);
+    sheet.number(unchanged_at(bars, bits, false));
     sheet.text(" at 0");
     sheet.end_text();
 }
@@ -205,7 +209,7 @@ pub(crate) fn put_contacts<A: Allocator>(
     sheet: &mut Sheet<A>,
     chart: &Chart<'_, A>,
     bars: &[bool],
-    top: u32,
+    top: Down,
 ) {
     let file = chart.file;
     let height = bars_height(chart, bars);
@@ -217,7 +221,7 @@ pub(crate) fn put_contacts<A: Allocator>(
     for (i, (channel, has_bar)) in contacts.enumerate() {
         if *has_bar {
             put_contact(sheet, chart, channel, i, y);
-            y = y.saturating_add(contact_height(channel));
+            y = y.after(contact_height(channel));
         }
     }
     put_trigger(sheet, chart, band);

@@ -2,7 +2,7 @@
 
 use crate::compare::By;
 use crate::layout::Chart;
-use crate::plan::{Differences, Moment, Point, between};
+use crate::plan::{Differences, Moment, between};
 use crate::rows::reading_at;
 use dfr_channels::Reading;
 use std::alloc::Allocator;
@@ -26,7 +26,7 @@ pub(crate) struct Beside<'a, A: Allocator> {
     pub(crate) times: &'a [Option<i64>],
     pub(crate) moments: &'a [Moment],
     pub(crate) places: &'a [Option<usize>],
-    pub(crate) most: i64,
+    pub(crate) most: u64,
     pub(crate) laid: Laid,
 }
 
@@ -54,19 +54,21 @@ fn value_beside<A: Allocator>(
     if moment.time == time {
         return Some(value);
     }
-    let next = beside.moments.get(place.saturating_add(1))?;
-    if beside.most < next.time.saturating_sub(moment.time) {
+    let next = beside.moments.get(place + 1)?;
+    let distance = next.time.abs_diff(moment.time);
+    if beside.most < distance {
         return None;
     }
-    let from = Point {
-        time: moment.time,
-        value,
-    };
-    let to = Point {
-        time: next.time,
-        value: value_in(beside.other, next.row, channel)?,
-    };
-    Some(between(from, to, time))
+    let later = value_in(beside.other, next.row, channel)?;
+    let part = time.abs_diff(moment.time);
+    Some(between(value, later, part, distance))
+}
+
+/// When a row of the first record was taken, and the index of the other's moment beside it.
+fn place_at<A: Allocator>(beside: &Beside<'_, A>, row: usize) -> Option<(i64, usize)> {
+    let time = (*beside.times.get(row)?)?;
+    let place = (*beside.places.get(row)?)?;
+    Some((time, place))
 }
 
 /// The differences between a channel of one record and its partner in the other, over the rows that
@@ -77,9 +79,8 @@ pub(crate) fn differences_of<A: Allocator>(
     partner: usize,
 ) -> Differences {
     let mut differences = Differences::none();
-    let rows = beside.times.iter().zip(beside.places.iter());
-    for (row, (time, place)) in rows.enumerate() {
-        let (Some(time), Some(place)) = (*time, *place) else {
+    for row in 0..beside.times.len() {
+        let Some((time, place)) = place_at(beside, row) else {
             continue;
         };
         if beside.one.frame.has(time) {
@@ -95,11 +96,11 @@ pub(crate) fn differences_of<A: Allocator>(
 
 /// Whether the other record has a row at the instant of each drawn row, as far as that record goes.
 pub(crate) fn is_exact<A: Allocator>(beside: &Beside<'_, A>) -> bool {
-    let last = beside.moments.len().saturating_sub(1);
     for (time, place) in beside.times.iter().zip(beside.places.iter()) {
         if let (Some(time), Some(place)) = (*time, *place) {
             if let Some(moment) = beside.moments.get(place) {
-                if beside.one.frame.has(time) && place < last && moment.time != time {
+                let is_last = beside.moments.get(place + 1).is_none();
+                if beside.one.frame.has(time) && !is_last && moment.time != time {
                     return false;
                 }
             }

@@ -1,5 +1,7 @@
 //! Intervals without scans.
 
+ghost use Rattle.std.specs.Prelude.{◌≡◌};
+
 use crate::plan::Frame;
 use comtrade_io::ToolFault;
 use std::alloc::Allocator;
@@ -14,7 +16,9 @@ pub(crate) struct Gap {
 
 impl Gap {
     /// A gap without rows so far, after a row of this time.
-    fn after(time: i64) -> Gap {
+    fn after(time: i64) -> Gap
+        ensures { result.rows ≡ 0 }
+    {
         Gap {
             from: time,
             to: time,
@@ -43,7 +47,7 @@ pub(crate) fn gaps_of<A: Allocator + Copy>(
     let mut begun = Gap::after(frame.from);
     for time in kept {
         match *time {
-            None => begun.rows = begun.rows.saturating_add(1),
+            None => begun.rows += 1,
             Some(time) => {
                 if let Some(gap) = begun.up_to(frame, time) {
                     gaps.push(gap)?;

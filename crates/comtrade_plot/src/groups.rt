@@ -64,54 +64,69 @@ struct Newcomer<'a, A: Allocator> {
     extent: Option<f64>,
 }
 
-/// How well a channel fits into a panel.
+impl Bunch {
+    /// A panel with one channel.
+    fn alone(first: usize, hue: Option<Hue>, extent: Option<f64>) -> Bunch {
+        Bunch {
+            first,
+            count: 1,
+            hues: match hue {
+                Some(hue) => hue.bit(),
+                None => 0,
+            },
+            extents: match extent {
+                Some(extent) => Some((extent, extent)),
+                None => None,
+            },
+        }
+    }
+
+    /// The panel with one more channel; None where it has no room, the hue is taken, or a common
+    /// scale would hide a trace.
+    fn with(self, hue: Option<Hue>, extent: Option<f64>) -> Option<Bunch> {
+        let bit = match hue {
+            Some(hue) => hue.bit(),
+            None => 0,
+        };
+        if TOGETHER <= self.count || self.hues & bit != 0 {
+            return None;
+        }
+        Some(Bunch {
+            first: self.first,
+            count: self.count + 1,
+            hues: self.hues | bit,
+            extents: joined(self.extents, extent)?,
+        })
+    }
+}
+
+/// How well a channel fits into a panel, and the panel with it.
 fn fit_of<A: Allocator>(
     channels: &[AnalogChannel<A>],
     bunch: Bunch,
     newcomer: &Newcomer<'_, A>,
-) -> Likeness {
-    let is_taken = match newcomer.hue {
-        Some(hue) => bunch.hues & hue.bit() != 0,
-        None => false,
-    };
-    if is_taken || TOGETHER <= bunch.count || joined(bunch.extents, newcomer.extent).is_none() {
-        return Likeness::None;
-    }
-    match channels.get(bunch.first) {
-        Some(first) => likeness_of(first, newcomer.channel),
-        None => Likeness::None,
-    }
+) -> Option<(Likeness, Bunch)> {
+    let grown = bunch.with(newcomer.hue, newcomer.extent)?;
+    let first = channels.get(bunch.first)?;
+    Some((likeness_of(first, newcomer.channel), grown))
 }
 
-/// The panel for a channel: the first one with a related name, else the first one that takes it.
+/// The panel for a channel, and what it is with it: the first one with a related name, else the
+/// first one that takes it.
 fn panel_for<A: Allocator>(
     channels: &[AnalogChannel<A>],
     bunches: &[Bunch],
     newcomer: &Newcomer<'_, A>,
-) -> Option<usize> {
+) -> Option<(usize, Bunch)> {
     let mut found = None;
     for (i, bunch) in bunches.iter().enumerate() {
         match fit_of(channels, *bunch, newcomer) {
-            Likeness::Close => return Some(i),
-            Likeness::Loose if found.is_none() => found = Some(i),
+            Some((Likeness::Close, grown)) => return Some((i, grown)),
+            Some((Likeness::Loose, grown)) if found.is_none() => found = Some((i, grown)),
             _ => {}
         }
     }
     found
-}
-
-impl Bunch {
-    fn with(self, hue: Option<Hue>, extent: Option<f64>) -> Bunch {
-        Bunch {
-            first: self.first,
-            count: self.count.saturating_add(1),
-            hues: match hue {
-                Some(hue) => self.hues | hue.bit(),
-                None => self.hues,
-            },
-            extents: joined(self.extents, extent).unwrap_or(self.extents),
-        }
-    }
 }
 
 /// Puts a channel into its panel or into a new one, and returns the panel's number.
@@ -121,21 +136,14 @@ fn settle<A: Allocator, B: Allocator>(
     at: usize,
     newcomer: &Newcomer<'_, A>,
 ) -> Result<usize, AllocError> {
-    let (hue, extent) = (newcomer.hue, newcomer.extent);
-    if let Some(panel) = panel_for(channels, bunches, newcomer) {
+    if let Some((panel, grown)) = panel_for(channels, bunches, newcomer) {
         if let Some(bunch) = bunches.get_mut(panel) {
-            *bunch = bunch.with(hue, extent);
+            *bunch = grown;
             return Ok(panel);
         }
     }
     let panel = bunches.len();
-    let empty = Bunch {
-        first: at,
-        count: 0,
-        hues: 0,
-        extents: None,
-    };
-    bunches.push(empty.with(hue, extent))?;
+    bunches.push(Bunch::alone(at, newcomer.hue, newcomer.extent))?;
     Ok(panel)
 }
 
@@ -187,11 +195,9 @@ pub(crate) fn hue_in<A: Allocator>(
         return hue;
     }
     let panel = panels.get(at);
-    let mut place = 0usize;
-    for (other, its) in channels.iter().zip(panels.iter()).take(at) {
-        if Some(its) == panel && phase_hue(other).is_none() {
-            place = place.saturating_add(1);
-        }
-    }
+    let before = channels.iter().zip(panels.iter()).take(at);
+    let place = before
+        .filter(|(other, its)| Some(*its) == panel && phase_hue(other).is_none())
+        .count();
     other_hue(place)
 }

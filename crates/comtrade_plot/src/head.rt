@@ -3,7 +3,7 @@
 use crate::instant::{put_instant, put_range};
 use crate::layout::{Chart, panel_count};
 use crate::legend::peak_of;
-use crate::plan::{LEFT, WIDTH};
+use crate::plan::{Down, LEFT, WIDTH};
 use crate::plot::PlotOptions;
 use crate::quantity::put_quantity;
 use crate::sheet::Sheet;
@@ -20,17 +20,19 @@ svg{fill:#e8eaed}.p{fill:#14171c}.f{fill:#a9b0b8}.g{stroke:#2c323a}.e{stroke:#7b
 .v{stroke-dasharray:8 2}.w{stroke-dasharray:3 2}.z{stroke-dasharray:8 2 2 2}}</style>\n";
 
 /// The tag of a picture of this many pixels. It keeps its aspect ratio if only its width is given.
-pub(crate) fn put_tag<A: Allocator>(sheet: &mut Sheet<A>, options: PlotOptions, height: u32) {
-    let width = options.width.unwrap_or(WIDTH / 10);
-    let pixels = u64::from(width).saturating_mul(u64::from(height)) / 12_000;
-    let kept = u32::try_from(pixels).unwrap_or(u32::MAX);
-    let shown = options.height.unwrap_or(kept);
+pub(crate) fn put_tag<A: Allocator>(sheet: &mut Sheet<A>, options: PlotOptions, height: Down) {
+    // (without an option the picture's own width)
+    let width = u64::from(options.width.unwrap_or(WIDTH / 10));
+    let shown = match options.height {
+        Some(shown) => u64::from(shown),
+        None => width * u64::from(height.tenths) / 12_000,
+    };
     sheet.text("<svg xmlns=\"http://www.w3.org/2000/svg\" width=\"");
-    sheet.number(u64::from(width));
+    sheet.number(width);
     sheet.text("\" height=\"");
-    sheet.number(u64::from(shown.max(1)));
+    sheet.number(shown.max(1));
     sheet.text("\" viewBox=\"0 0 1200 ");
-    sheet.tenths(height);
+    sheet.tenths(height.tenths);
     sheet.text(
         "\" role=\"img\" aria-labelledby=\"title desc\" font-family=\"sans-serif\" font-size=\"12\" fill=\"#1c1f23\">\n",
     );
@@ -92,7 +94,7 @@ fn put_description<A: Allocator>(sheet: &mut Sheet<A>, chart: &Chart<'_, A>) {
 }
 
 /// When the trigger was, the number of rows, and their rates.
-pub(crate) fn put_facts<A: Allocator>(sheet: &mut Sheet<A>, file: &File<A>, y: u32) {
+pub(crate) fn put_facts<A: Allocator>(sheet: &mut Sheet<A>, file: &File<A>, y: Down) {
     let head = &file.head;
     sheet.begin_text(LEFT, y, " class=\"f\" fill=\"#55595f\"");
     sheet.text("trigger ");
@@ -118,8 +120,8 @@ pub(crate) fn put_head<A: Allocator>(sheet: &mut Sheet<A>, chart: &Chart<'_, A>)
     put_description(sheet, chart);
     sheet.text(STYLE);
     sheet.text("<rect class=\"p\" width=\"100%\" height=\"100%\" fill=\"#ffffff\"/>\n");
-    sheet.begin_text(LEFT, 230, " font-size=\"15\"");
+    sheet.begin_text(LEFT, Down::at(230), " font-size=\"15\"");
     put_station(sheet, &file.head);
     sheet.end_text();
-    put_facts(sheet, file, 410);
+    put_facts(sheet, file, Down::at(410));
 }

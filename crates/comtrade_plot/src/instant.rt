@@ -1,5 +1,7 @@
 //! Instants as dates, and spans of time.
 
+ghost use Rattle.std.specs.Prelude.{◌≤ℤ◌, pos};
+
 use crate::sheet::Sheet;
 use comtrade_values::has_date;
 use std::alloc::Allocator;
@@ -51,23 +53,33 @@ pub(crate) fn time_unit(span: u64) -> TimeUnit {
     }
 }
 
-/// Nanoseconds, rounded to about a thousandth of the unit.
-fn rounded(nanos: i64, unit: TimeUnit) -> i64 {
+/// A number of nanoseconds, rounded to about a thousandth of the unit.
+fn rounded_size(nanos: u64, unit: TimeUnit) -> i128
+    ensures least { pos 0 ≤ℤ result }
+    ensures most { result ≤ℤ pos 36893488147419103232 }
+{
     let grain = (unit.nanos / 1000).max(1);
-    let size = nanos.unsigned_abs();
-    let whole = size.saturating_add(grain / 2) / grain;
-    let whole = i64::try_from(whole.saturating_mul(grain)).unwrap_or(i64::MAX);
-    if nanos < 0 {
-        whole.saturating_neg()
-    } else {
-        whole
-    }
+    let size = u128::from(nanos) + u128::from(grain / 2);
+    (size - size % u128::from(grain)) as i128
+}
+
+/// Nanoseconds, rounded to about a thousandth of the unit.
+fn rounded(nanos: i64, unit: TimeUnit) -> i128 {
+    let size = rounded_size(nanos.unsigned_abs(), unit);
+    if nanos < 0 { -size } else { size }
 }
 
 /// A time with its unit, to a thousandth of it.
 pub(crate) fn put_span<A: Allocator>(sheet: &mut Sheet<A>, nanos: i64) {
     let unit = time_unit(nanos.unsigned_abs());
     sheet.scaled(rounded(nanos, unit), unit.places);
+    sheet.texts(&[" ", unit.name]);
+}
+
+/// A duration with its unit, to a thousandth of it.
+pub(crate) fn put_duration<A: Allocator>(sheet: &mut Sheet<A>, nanos: u64) {
+    let unit = time_unit(nanos);
+    sheet.scaled(rounded_size(nanos, unit), unit.places);
     sheet.texts(&[" ", unit.name]);
 }
 

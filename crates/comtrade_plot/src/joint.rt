@@ -1,11 +1,11 @@
 //! Preparation of two records before they are drawn: times on one axis, panels of partners, the
 //! times that are drawn.
 
-use crate::axis::rounded_out;
 use crate::layout::NOWHERE;
 use crate::plan::{Frame, window_of};
-use crate::record::{Record, USUAL_CYCLE, lasting};
+use crate::record::{Record, lasting};
 use crate::rows::{last_change, whole_frame};
+use crate::ticks::rounded_out;
 use comtrade_format::File;
 use comtrade_io::ToolFault;
 use std::alloc::Allocator;
@@ -36,7 +36,7 @@ pub(crate) fn own_panels<A: Allocator + Copy>(
     for partner in partners {
         if partner.is_some() {
             panels.push(next)?;
-            next = next.saturating_add(1);
+            next += 1;
         } else {
             panels.push(NOWHERE)?;
         }
@@ -60,7 +60,7 @@ pub(crate) fn panels_beside<A: Allocator + Copy>(
             if let Some(panel) = panels.get_mut(partner) {
                 *panel = next;
             }
-            next = next.saturating_add(1);
+            next += 1;
         }
     }
     Ok(panels)
@@ -81,7 +81,7 @@ pub(crate) fn drawn_of<A: Allocator>(
     other: &Record<A>,
     is_whole: bool,
 ) -> Option<Drawn> {
-    let cycle = one.cycle.unwrap_or(USUAL_CYCLE);
+    let cycle = one.cycle_or_usual();
     let (first, second) = (whole_frame(&one.kept)?, whole_frame(&other.kept)?);
     let both = Frame {
         from: first.from.max(second.from),
@@ -96,12 +96,12 @@ pub(crate) fn drawn_of<A: Allocator>(
             to: first.to.max(second.to),
         };
         return Some(Drawn {
-            frame: rounded_out(lasting(Some(all), cycle)),
+            frame: rounded_out(lasting(Some(all), cycle.nanos)),
             is_part: false,
         });
     }
     let change = last_change(file, &one.kept, cycle);
-    let both = lasting(Some(both), cycle);
+    let both = lasting(Some(both), cycle.nanos);
     match window_of(both, cycle, change) {
         Some(frame) => Some(Drawn {
             frame,

@@ -1,10 +1,12 @@
 //! The room that panels and names take.
 
+ghost use Rattle.std.specs.Prelude.{◌≤◌};
+
 use crate::gaps::Gap;
 use crate::groups::hue_in;
 use crate::layers::Layer;
 use crate::phases::Hue;
-use crate::plan::Frame;
+use crate::plan::{Cycle, Down, Frame};
 use crate::survey::{Rms, Survey};
 use comtrade_format::{File, Scale};
 use dfr_channels::{AnalogChannel, StatusChannel};
@@ -24,7 +26,7 @@ pub(crate) struct Chart<'a, A: Allocator> {
     pub(crate) frame: Frame,
     pub(crate) places: &'a [Option<u32>],
     pub(crate) gaps: &'a [Gap],
-    pub(crate) cycle: Option<i64>,
+    pub(crate) cycle: Option<Cycle>,
     pub(crate) is_timed: bool,
     pub(crate) trigger: i64,
     pub(crate) layer: Layer,
@@ -42,13 +44,13 @@ impl<'a, A: Allocator> Chart<'a, A> {
 /// The vertical band of a panel, or of the bars of status channels.
 #[derive(Clone, Copy)]
 pub(crate) struct Band {
-    pub(crate) top: u32,
-    pub(crate) height: u32,
+    pub(crate) top: Down,
+    pub(crate) height: Down,
 }
 
 impl Band {
-    pub(crate) fn bottom(self) -> u32 {
-        self.top.saturating_add(self.height)
+    pub(crate) fn bottom(self) -> Down {
+        self.top.after(self.height)
     }
 }
 
@@ -57,9 +59,6 @@ pub(crate) const NOWHERE: usize = usize::MAX;
 
 /// The limit in bytes of a line of a name.
 const LINE: usize = 32;
-
-/// The maximum number of lines of a name.
-const LINES: u32 = 3;
 
 /// The height of a line of a legend.
 pub(crate) const LINE_HEIGHT: u32 = 140;
@@ -70,16 +69,15 @@ pub(crate) const TITLE: u32 = 210;
 /// The height of a status channel's bar with the space below it, where its name has one line.
 pub(crate) const CONTACT: u32 = 200;
 
-/// Where the UTF-8 character of a byte begins.
-fn begin_of(name: &[u8], at: usize) -> usize {
-    let mut begin = at;
-    for _ in 0..3 {
+/// Where the UTF-8 character begins that has the byte after a whole line.
+fn begin_of(name: &[u8]) -> usize {
+    for begin in [LINE, LINE - 1, LINE - 2] {
         match name.get(begin) {
-            Some(0x80..=0xBF) => begin = begin.saturating_sub(1),
-            _ => break,
+            Some(0x80..=0xBF) => {}
+            _ => return begin,
         }
     }
-    begin
+    LINE - 3
 }
 
 /// The first line of a name, and the rest. It ends at a space in its last third, if there is one.
@@ -92,8 +90,8 @@ pub(crate) fn first_line(name: &[u8]) -> (&[u8], &[u8]) {
         None => name,
     };
     let at = match front.iter().rposition(|b| *b == b' ') {
-        Some(space) if LINE * 2 / 3 <= space => space.saturating_add(1),
-        _ => begin_of(name, LINE),
+        Some(space) if LINE * 2 / 3 <= space => space + 1,
+        _ => begin_of(name),
     };
     match (name.get(..at), name.get(at..)) {
         (Some(line), Some(rest)) => (line, rest),
@@ -101,62 +99,56 @@ pub(crate) fn first_line(name: &[u8]) -> (&[u8], &[u8]) {
     }
 }
 
-/// How many lines a name takes.
-fn lines_of(name: &[u8]) -> u32 {
-    let mut left = first_line(name).1;
-    let mut lines = 1u32;
-    for _ in 1..LINES {
-        if left.is_empty() {
-            break;
-        }
-        lines = lines.saturating_add(1);
-        left = first_line(left).1;
+/// How many lines a name takes after its first one, of at most three.
+fn more_lines(name: &[u8]) -> u32
+    ensures { result ≤ 2 }
+{
+    let rest = first_line(name).1;
+    if rest.is_empty() {
+        0
+    } else if first_line(rest).1.is_empty() {
+        1
+    } else {
+        2
     }
-    lines
 }
 
 /// The height of a status channel's bar with its name, and with the space below it.
-pub(crate) fn contact_height<A: Allocator>(channel: &StatusChannel<A>) -> u32 {
-    lines_of(channel.id.items())
-        .saturating_sub(1)
-        .saturating_mul(LINE_HEIGHT)
-        .saturating_add(CONTACT)
+pub(crate) fn contact_height<A: Allocator>(channel: &StatusChannel<A>) -> Down {
+    Down::at(more_lines(channel.id.items()) * LINE_HEIGHT + CONTACT)
 }
 
 /// The height of a channel's name and numbers next to its panel.
-pub(crate) fn legend_height<A: Allocator>(channel: &AnalogChannel<A>) -> u32 {
-    lines_of(channel.id.items())
-        .saturating_add(1)
-        .saturating_mul(LINE_HEIGHT)
-        .saturating_add(20)
+pub(crate) fn legend_height<A: Allocator>(channel: &AnalogChannel<A>) -> Down {
+    Down::at(more_lines(channel.id.items()) * LINE_HEIGHT + 2 * LINE_HEIGHT + 20)
 }
 
 /// The height of panels whose legends do not need more.
-pub(crate) fn least_height(panels: usize) -> u32 {
+pub(crate) fn least_height(panels: usize) -> Down {
     if panels <= 3 {
-        1500
+        Down::at(1500)
     } else if panels <= 8 {
-        1200
+        Down::at(1200)
     } else {
-        800
+        Down::at(800)
     }
 }
 
 /// The height of the names and numbers next to a panel.
-pub(crate) fn legends_height<A: Allocator>(chart: &Chart<'_, A>, panel: usize) -> u32 {
+pub(crate) fn legends_height<A: Allocator>(chart: &Chart<'_, A>, panel: usize) -> Down {
     let file = chart.file;
     let channels = file.head.analog.items();
-    let mut legend = 0u32;
+    let mut legend = Down::at(0);
     for (channel, its) in channels.iter().zip(chart.panels.iter()) {
         if *its == panel {
-            legend = legend.saturating_add(legend_height(channel));
+            legend = legend.after(legend_height(channel));
         }
     }
     legend
 }
 
 /// The height of a panel, without its title.
-pub(crate) fn height_of<A: Allocator>(chart: &Chart<'_, A>, panel: usize, count: usize) -> u32 {
+pub(crate) fn height_of<A: Allocator>(chart: &Chart<'_, A>, panel: usize, count: usize) -> Down {
     legends_height(chart, panel).max(least_height(count))
 }
 
@@ -175,20 +167,18 @@ pub(crate) fn panel_count(panels: &[usize]) -> usize {
     let mut count = 0usize;
     for panel in panels {
         if *panel != NOWHERE {
-            count = count.max(panel.saturating_add(1));
+            count = count.max(*panel + 1);
         }
     }
     count
 }
 
 /// Where the panels end that begin here.
-pub(crate) fn panels_end<A: Allocator>(chart: &Chart<'_, A>, top: u32) -> u32 {
+pub(crate) fn panels_end<A: Allocator>(chart: &Chart<'_, A>, top: Down) -> Down {
     let count = panel_count(chart.panels);
     let mut end = top;
     for panel in 0..count {
-        end = end
-            .saturating_add(TITLE)
-            .saturating_add(height_of(chart, panel, count));
+        end = end.below(TITLE).after(height_of(chart, panel, count));
     }
     end
 }

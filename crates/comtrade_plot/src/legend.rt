@@ -3,7 +3,7 @@
 use crate::layers::Layer;
 use crate::layout::{Chart, LINE_HEIGHT, first_line, legend_height};
 use crate::phases::Hue;
-use crate::plan::RIGHT;
+use crate::plan::{Down, RIGHT};
 use crate::quantity::put_quantity;
 use crate::sheet::Sheet;
 use crate::survey::{Rms, Survey};
@@ -15,14 +15,20 @@ use std::alloc::Allocator;
 pub(crate) const NAMES: u32 = RIGHT + 320;
 
 /// A piece of a trace of a layer, from a position on.
-pub(crate) fn put_mark<A: Allocator>(sheet: &mut Sheet<A>, layer: Layer, hue: Hue, x: u32, y: u32) {
+pub(crate) fn put_mark<A: Allocator>(
+    sheet: &mut Sheet<A>,
+    layer: Layer,
+    hue: Hue,
+    x: u32,
+    y: Down,
+) {
     sheet.texts(&["<path class=\"", hue.class(), "\" stroke=\"", hue.colour()]);
     sheet.texts(&[
         "\"",
         layer.dashes(),
         " stroke-width=\"2.5\" fill=\"none\" d=\"",
     ]);
-    sheet.point("M", x, y.saturating_sub(40));
+    sheet.point("M", x, y.above(40).tenths);
     sheet.along("h", 190);
     sheet.text("\"/>\n");
 }
@@ -34,8 +40,8 @@ pub(crate) fn put_name<A: Allocator>(
     tag: &str,
     name: &[u8],
     phase: &[u8],
-    y: u32,
-) -> u32 {
+    y: Down,
+) -> Down {
     let mut y = y;
     let (mut line, mut rest) = first_line(name);
     let mut tag = tag;
@@ -48,7 +54,7 @@ pub(crate) fn put_name<A: Allocator>(
         sheet.name(line);
         sheet.end_text();
         tag = "";
-        y = y.saturating_add(LINE_HEIGHT);
+        y = y.below(LINE_HEIGHT);
         (line, rest) = first_line(rest);
     }
     sheet.begin_text(NAMES, y, "");
@@ -101,7 +107,7 @@ fn put_rms<A: Allocator>(sheet: &mut Sheet<A>, rms: Rms, unit: &[u8]) {
 }
 
 /// A small text at a vertical position next to a panel, compressed where there is not enough room.
-pub(crate) fn put_small<A: Allocator>(sheet: &mut Sheet<A>, y: u32, text: &Sheet<A>) {
+pub(crate) fn put_small<A: Allocator>(sheet: &mut Sheet<A>, y: Down, text: &Sheet<A>) {
     let small = " class=\"f\" font-size=\"10.5\" fill=\"#55595f\"";
     let narrow =
         " class=\"f\" font-size=\"10.5\" fill=\"#55595f\" textLength=\"246\" lengthAdjust=\"spacingAndGlyphs\"";
@@ -116,8 +122,8 @@ pub(crate) fn put_legend<A: Allocator + Copy>(
     sheet: &mut Sheet<A>,
     chart: &Chart<'_, A>,
     at: usize,
-    y: u32,
-) -> u32 {
+    y: Down,
+) -> Down {
     let file = chart.file;
     let channels = file.head.analog.items();
     let (Some(channel), Some(survey), Some(scale)) = (
@@ -143,6 +149,6 @@ pub(crate) fn put_legend<A: Allocator + Copy>(
         }
         None => numbers.text("no readings"),
     }
-    put_small(sheet, end.saturating_add(LINE_HEIGHT - 10), &numbers);
-    y.saturating_add(legend_height(channel))
+    put_small(sheet, end.below(LINE_HEIGHT - 10), &numbers);
+    y.after(legend_height(channel))
 }

@@ -32,6 +32,7 @@ mod script_text;
 mod sheet;
 mod style_text;
 mod survey;
+mod ticks;
 mod trace;
 mod units;
 

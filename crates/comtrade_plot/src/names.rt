@@ -1,5 +1,7 @@
 //! Whether channels belong to one bay, by their names.
 
+ghost use Rattle.std.specs.Prelude.{◌≤◌, ◌+◌, length};
+
 use dfr_channels::AnalogChannel;
 use std::alloc::Allocator;
 
@@ -15,11 +17,17 @@ pub(crate) enum Likeness {
 }
 
 /// The length of the common prefix of two names, in bytes.
-fn common_front(one: &[u8], other: &[u8]) -> usize {
-    one.iter()
-        .zip(other.iter())
-        .take_while(|(a, b)| a == b)
-        .count()
+fn common_front(one: &[u8], other: &[u8]) -> usize
+    ensures first { result ≤ length one.now }
+    ensures second { result ≤ length other.now }
+{
+    let most = one.len().min(other.len());
+    for i in 0..most {
+        if one[i] != other[i] {
+            return i;
+        }
+    }
+    most
 }
 
 /// The length of the common suffix of two names, in bytes.
@@ -32,14 +40,10 @@ fn common_end(one: &[u8], other: &[u8]) -> usize {
 }
 
 /// A name without this many bytes at its beginning and at its end.
-fn middle(name: &[u8], front: usize, end: usize) -> &[u8] {
-    let Some(rest) = name.get(front..) else {
-        return &[];
-    };
-    match rest.get(..rest.len().saturating_sub(end)) {
-        Some(middle) => middle,
-        None => &[],
-    }
+fn middle(name: &[u8], front: usize, end: usize) -> &[u8]
+    requires { front + end ≤ length name.now }
+{
+    &name[front..name.len() - end]
 }
 
 /// Whether a part of a name is that of a phase.
@@ -57,7 +61,7 @@ fn is_of_phase(part: &[u8], phase: &[u8]) -> bool {
 fn differ_in_phase<A: Allocator>(one: &AnalogChannel<A>, other: &AnalogChannel<A>) -> bool {
     let (first, second) = (one.id.items(), other.id.items());
     let front = common_front(first, second);
-    let end = common_end(first, second).min(first.len().min(second.len()).saturating_sub(front));
+    let end = common_end(first, second).min(first.len().min(second.len()) - front);
     is_of_phase(middle(first, front, end), one.phase.items())
         && is_of_phase(middle(second, front, end), other.phase.items())
 }

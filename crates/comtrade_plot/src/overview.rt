@@ -1,10 +1,10 @@
 //! The strip that shows which part of a long record is drawn.
 
-use crate::instant::{put_range, put_span};
+use crate::instant::{put_duration, put_range, put_span};
 use crate::layout::{Band, Chart};
 use crate::legend::NAMES;
 use crate::panels::{panel_of, put_frame, put_traces};
-use crate::plan::{Frame, LEFT, RIGHT};
+use crate::plan::{Down, Frame, LEFT, RIGHT};
 use crate::sheet::Sheet;
 use crate::units::unit_of;
 use std::alloc::Allocator;
@@ -15,7 +15,7 @@ pub(crate) const STRIP: u32 = 760;
 const HEIGHT: u32 = 440;
 
 /// The times at both ends of the record.
-fn put_ends<A: Allocator>(sheet: &mut Sheet<A>, whole: Frame, y: u32) {
+fn put_ends<A: Allocator>(sheet: &mut Sheet<A>, whole: Frame, y: Down) {
     let rest = " font-size=\"10.5\" class=\"f\" fill=\"#55595f\"";
     sheet.begin_text(LEFT, y, rest);
     put_span(sheet, whole.from);
@@ -44,35 +44,35 @@ pub(crate) fn put_overview<A: Allocator>(
     sheet: &mut Sheet<A>,
     whole: &Chart<'_, A>,
     part: Frame,
-    top: u32,
+    top: Down,
 ) {
     let number = chosen_panel(whole);
     let band = Band {
         top,
-        height: HEIGHT,
+        height: Down::at(HEIGHT),
     };
     if let Some(panel) = panel_of(whole, None, number, band) {
         put_traces(sheet, whole, panel, number);
     }
     put_frame(sheet, band);
     let frame = whole.frame;
-    let from = frame.across(part.from).saturating_sub(10).max(LEFT);
-    let to = frame.across(part.to).saturating_add(10).min(RIGHT);
-    let width = to.saturating_sub(from).max(20);
-    sheet.begin_box((from, top.saturating_sub(20)), (width, HEIGHT + 40));
+    let from = (frame.across(part.from) - 10).max(LEFT);
+    let to = (frame.across(part.to) + 10).min(RIGHT);
+    let width = to.max(from + 20) - from;
+    sheet.begin_box((from, top.above(20).tenths), (width, HEIGHT + 40));
     sheet.text(" class=\"q\" fill=\"#f0b429\" fill-opacity=\"0.3\" stroke=\"#b07a00\"/>\n");
-    put_ends(sheet, frame, top.saturating_add(HEIGHT + 150));
-    sheet.begin_text(NAMES, top.saturating_add(110), "");
+    put_ends(sheet, frame, top.below(HEIGHT + 150));
+    sheet.begin_text(NAMES, top.below(110), "");
     sheet.text("the whole record, ");
-    put_span(sheet, frame.to.saturating_sub(frame.from));
+    put_duration(sheet, frame.span());
     sheet.end_text();
-    sheet.begin_text(NAMES, top.saturating_add(250), "");
+    sheet.begin_text(NAMES, top.below(250), "");
     sheet.text("drawn below: ");
     put_range(sheet, part.from, part.to);
     sheet.end_text();
     sheet.label(
         NAMES,
-        top.saturating_add(390),
+        top.below(390),
         " class=\"f\" font-size=\"10.5\" fill=\"#55595f\"",
         "comtrade plot --whole draws all",
     );

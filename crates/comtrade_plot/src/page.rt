@@ -186,13 +186,17 @@ fn begin_samples<A: Allocator + Copy>(
         channel.is_wide = is_wide;
         return Ok(());
     }
-    let size = rows.saturating_mul(if is_wide { 4 } else { 2 });
+    let width = if is_wide { 4 } else { 2 };
+    let size = rows.checked_mul(width).ok_or(AllocError)?;
     channels.push(Samples {
         bytes: Vec::with_capacity(alloc, size)?,
         is_wide,
     })?;
     Ok(())
 }
+
+/// How many channels are read in one pass over the rows.
+const TOGETHER: usize = 8;
 
 /// Writes the samples of all channels, several of them in one pass over the rows, whose readings
 /// lie far apart.
@@ -202,19 +206,18 @@ fn write_samples<A: Allocator + Copy, W: Write>(
     surveys: &[Survey],
     w: &mut W,
 ) -> Result<(), ToolFault> {
-    let mut n = 0usize;
-    let mut channels: Vec<Samples<A>, A> = Vec::with_capacity(alloc, 8)?;
-    for some in surveys.chunks(8) {
+    let mut channels: Vec<Samples<A>, A> = Vec::with_capacity(alloc, TOGETHER)?;
+    let firsts = (0..surveys.len()).step_by(TOGETHER);
+    for (first, some) in firsts.zip(surveys.chunks(TOGETHER)) {
         for (i, survey) in some.iter().enumerate() {
             begin_samples(alloc, &mut channels, i, is_wide(*survey), rows.len())?;
         }
         let Some(channels) = channels.as_mut_slice().get_mut(..some.len()) else {
             break;
         };
-        gather_samples(channels, rows, n)?;
-        for channel in channels.iter() {
+        gather_samples(channels, rows, first)?;
+        for (n, channel) in (first..surveys.len()).zip(channels.iter()) {
             write_block(alloc, "s", Some(n), &channel.bytes, w)?;
-            n = n.saturating_add(1);
         }
     }
     Ok(())
@@ -226,8 +229,9 @@ fn write_bits<A: Allocator + Copy, W: Write>(
     file: &File<A>,
     w: &mut W,
 ) -> Result<(), ToolFault> {
-    let mut n = 0usize;
-    for some in file.head.status.items().chunks(64) {
+    let channels = file.head.status.items();
+    let firsts = (0..channels.len()).step_by(64);
+    for (first, some) in firsts.zip(channels.chunks(64)) {
         let mut contacts = Vec::new(alloc);
         for _ in some {
             contacts.push(Bits {
@@ -235,10 +239,9 @@ fn write_bits<A: Allocator + Copy, W: Write>(
                 byte: 0,
             })?;
         }
-        gather_bits(&mut contacts, file.rows.items(), n)?;
-        for contact in &contacts {
+        gather_bits(&mut contacts, file.rows.items(), first)?;
+        for (n, contact) in (first..channels.len()).zip(contacts.iter()) {
             write_block(alloc, "d", Some(n), &contact.bytes, w)?;
-            n = n.saturating_add(1);
         }
     }
     Ok(())

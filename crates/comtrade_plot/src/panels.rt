@@ -5,7 +5,7 @@ use crate::edges::{spread, with_edges};
 use crate::layout::{Band, Chart, TITLE, channel_in, height_of, panel_count};
 use crate::legend::put_legend;
 use crate::levels::put_levels;
-use crate::plan::{ACROSS, LEFT, Panel, RIGHT};
+use crate::plan::{ACROSS, Down, LEFT, Panel, RIGHT};
 use crate::sheet::Sheet;
 use crate::trace::put_channel;
 use crate::units::{put_unit, shown_exponent, unit_of};
@@ -56,7 +56,7 @@ fn first_of<'a, A: Allocator>(chart: &Chart<'a, A>, panel: usize) -> Option<&'a 
 }
 
 /// The power of ten by which a panel's values are divided for display.
-fn exponent_of<A: Allocator>(channel: &AnalogChannel<A>, panel: Panel) -> i32 {
+fn exponent_of<A: Allocator>(channel: &AnalogChannel<A>, panel: Panel) -> i16 {
     let size = if panel.high.abs() < panel.low.abs() {
         panel.low.abs()
     } else {
@@ -69,8 +69,8 @@ fn exponent_of<A: Allocator>(channel: &AnalogChannel<A>, panel: Panel) -> i32 {
 fn put_title<A: Allocator>(
     sheet: &mut Sheet<A>,
     channel: &AnalogChannel<A>,
-    exponent: i32,
-    y: u32,
+    exponent: i16,
+    y: Down,
 ) {
     sheet.begin_text(LEFT, y, " class=\"f\" fill=\"#55595f\"");
     put_unit(sheet, unit_of(channel.unit.items()), exponent);
@@ -108,9 +108,9 @@ fn put_names<A: Allocator + Copy>(
     sheet: &mut Sheet<A>,
     chart: &Chart<'_, A>,
     number: usize,
-    top: u32,
+    top: Down,
 ) {
-    let mut y = top.saturating_add(90);
+    let mut y = top.below(90);
     for (i, its) in chart.panels.iter().enumerate() {
         if *its == number {
             y = put_legend(sheet, chart, i, y);
@@ -120,7 +120,7 @@ fn put_names<A: Allocator + Copy>(
 
 /// A panel's frame.
 pub(crate) fn put_frame<A: Allocator>(sheet: &mut Sheet<A>, band: Band) {
-    sheet.begin_box((LEFT, band.top), (ACROSS, band.height));
+    sheet.begin_box((LEFT, band.top.tenths), (ACROSS, band.height.tenths));
     sheet.text(" class=\"e\" fill=\"none\" stroke=\"#8a8f96\"/>\n");
 }
 
@@ -134,7 +134,7 @@ fn put_empty<A: Allocator>(sheet: &mut Sheet<A>, chart: &Chart<'_, A>, band: Ban
         } else {
             (LEFT + middle) / 2
         },
-        band.top.saturating_add(band.height / 2),
+        band.top.below(band.height.tenths / 2),
         " text-anchor=\"middle\" class=\"f\" fill=\"#55595f\"",
         "no readings",
     );
@@ -156,7 +156,7 @@ pub(crate) fn put_panel<'a, A: Allocator + Copy>(
         put_gaps(sheet, other, band);
     }
     put_grid(sheet, one.frame, band);
-    let title = band.top.saturating_sub(50);
+    let title = band.top.above(50);
     if let Some(panel) = panel_of(one, other, number, band) {
         let exponent = exponent_of(first, panel);
         put_title(sheet, first, exponent, title);
@@ -180,13 +180,13 @@ pub(crate) fn put_panel<'a, A: Allocator + Copy>(
 pub(crate) fn put_panels<A: Allocator + Copy>(
     sheet: &mut Sheet<A>,
     chart: &Chart<'_, A>,
-    top: u32,
+    top: Down,
 ) {
     let count = panel_count(chart.panels);
     let mut y = top;
     for number in 0..count {
         let band = Band {
-            top: y.saturating_add(TITLE),
+            top: y.below(TITLE),
             height: height_of(chart, number, count),
         };
         put_panel(sheet, chart, None, number, band);

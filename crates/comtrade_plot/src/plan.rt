@@ -4,14 +4,18 @@
 
 mod beside;
 mod course;
+mod cycle;
 mod differences;
+mod down;
 mod equal;
 mod frame;
 mod windows;
 
 pub use beside::{place_of, places_of};
 pub use course::{Moment, course_of};
-pub use differences::{Differences, Point, between};
+pub use cycle::Cycle;
+pub use differences::{Differences, between};
+pub use down::Down;
 pub use equal::{is_equal, partners_of};
 pub use frame::{ACROSS, Frame, LEFT, Panel, RIGHT, WIDTH};
 pub use windows::{later_change, window_of};

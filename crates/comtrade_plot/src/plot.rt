@@ -6,7 +6,7 @@ use crate::head::{put_head, put_tag};
 use crate::layout::{Chart, panels_end};
 use crate::overview::{STRIP, put_overview};
 use crate::panels::put_panels;
-use crate::plan::LEFT;
+use crate::plan::{Down, LEFT};
 use crate::record::{Timed, chart_of, choice_of, part_of, record_of, whole_of};
 use crate::sheet::Sheet;
 use comtrade_io::ToolFault;
@@ -27,25 +27,29 @@ pub struct PlotOptions {
 /// their end.
 #[derive(Clone, Copy)]
 struct Places {
-    names: u32,
-    panels: u32,
-    contacts: u32,
-    end: u32,
+    names: Down,
+    panels: Down,
+    contacts: Down,
+    end: Down,
 }
 
 /// The positions in a picture, with room for the overview strip where only a part of a record is
 /// drawn.
 fn places_in<A: Allocator>(chart: &Chart<'_, A>, bars: &[bool], is_part: bool) -> Places {
-    let strip = if is_part { STRIP } else { 0 };
-    let gaps = if chart.gaps.is_empty() { 0 } else { 150 };
-    let names = 620u32.saturating_add(strip).saturating_add(gaps);
-    let panels = names.saturating_add(40);
-    let contacts = panels_end(chart, panels).saturating_add(120);
+    let mut names = Down::at(620);
+    if is_part {
+        names = names.below(STRIP);
+    }
+    if !chart.gaps.is_empty() {
+        names = names.below(150);
+    }
+    let panels = names.below(40);
+    let contacts = panels_end(chart, panels).below(120);
     Places {
         names,
         panels,
         contacts,
-        end: contacts.saturating_add(contacts_height(chart, bars)),
+        end: contacts.after(contacts_height(chart, bars)),
     }
 }
 
@@ -54,14 +58,14 @@ fn places_in<A: Allocator>(chart: &Chart<'_, A>, bars: &[bool], is_part: bool) -
 fn put_scales<A: Allocator>(sheet: &mut Sheet<A>, chart: &Chart<'_, A>, places: Places) {
     put_times(sheet, chart, places.names);
     put_times_name(sheet, chart, places.names);
-    put_gap_names(sheet, chart, places.names.saturating_sub(150));
-    put_times(sheet, chart, places.end.saturating_add(170));
-    put_times_name(sheet, chart, places.end.saturating_add(170));
-    put_cycles(sheet, chart, places.end.saturating_add(240));
+    put_gap_names(sheet, chart, places.names.above(150));
+    put_times(sheet, chart, places.end.below(170));
+    put_times_name(sheet, chart, places.end.below(170));
+    put_cycles(sheet, chart, places.end.below(240));
     if !chart.rms.is_empty() {
         sheet.label(
             LEFT,
-            places.end.saturating_add(580),
+            places.end.below(580),
             " class=\"f\" font-size=\"10.5\" fill=\"#55595f\"",
             "peak: of what is drawn; rms: of the cycle that ends one cycle before the fault inception (else the trigger) \u{2192} of the first whole cycle after it",
         );
@@ -83,7 +87,7 @@ pub fn plot_over<A: Allocator + Copy, W: Write>(
     let bars = bars_of(&chart, options.shows_all)?;
     let places = places_in(&chart, &bars, choice.is_part);
     let mut sheet = Sheet::new(alloc);
-    put_tag(&mut sheet, options, places.end.saturating_add(640));
+    put_tag(&mut sheet, options, places.end.below(640));
     put_head(&mut sheet, &chart);
     put_panels(&mut sheet, &chart, places.panels);
     put_contacts(&mut sheet, &chart, &bars, places.contacts);
@@ -91,7 +95,7 @@ pub fn plot_over<A: Allocator + Copy, W: Write>(
     if choice.is_part {
         let all = whole_of(alloc, file, &record, &part, choice.whole)?;
         let strip = chart_of(alloc, file, &record, &all);
-        put_overview(&mut sheet, &strip, choice.drawn, 560);
+        put_overview(&mut sheet, &strip, choice.drawn, Down::at(560));
     }
     sheet.text("</svg>\n");
     sheet.write(w)

@@ -11,7 +11,7 @@ pub(crate) fn put_quantity<A: Allocator>(sheet: &mut Sheet<A>, value: f64, unit:
     let exponent = shown_exponent(unit, value.abs());
     let number = value / power_of_ten(exponent);
     let size = number.abs();
-    let places: i32 = if size < 1.0 {
+    let places: i16 = if size < 1.0 {
         4
     } else if size < 10.0 {
         3
@@ -23,8 +23,9 @@ pub(crate) fn put_quantity<A: Allocator>(sheet: &mut Sheet<A>, value: f64, unit:
         0
     };
     let half = if number < 0.0 { -0.5 } else { 0.5 };
+    // (a size of 10^18 and more in its unit is shown as the nearest number of 64 bits)
     let units = saturating_f64_to_i64(number * power_of_ten(places) + half);
-    sheet.scaled(units, places);
+    sheet.scaled(i128::from(units), i32::from(places));
     sheet.text(" ");
     put_unit(sheet, unit, exponent);
 }

@@ -1,21 +1,18 @@
 //! Preparation of a file before it is drawn.
 
-use crate::axis::rounded_out;
 use crate::gaps::{Gap, gaps_of};
 use crate::groups::panels_of;
 use crate::layers::Layer;
 use crate::layout::Chart;
-use crate::plan::{Frame, window_of};
+use crate::plan::{Cycle, Frame, window_of};
 use crate::rows::{kept_times, last_change, numbers_of, places_of, whole_frame};
 use crate::survey::{Rms, Survey, surveys_of};
+use crate::ticks::rounded_out;
 use comtrade_format::{File, Scale, nearest_f64, scale_of};
 use comtrade_io::ToolFault;
 use dfr_channels::AnalogChannel;
 use std::alloc::Allocator;
 use std::num::saturating_f64_to_i64;
-
-/// A cycle of 50 Hz, in nanoseconds.
-pub(crate) const USUAL_CYCLE: i64 = 20_000_000;
 
 /// The scales that turn each channel's samples into values.
 fn scales_of<A: Allocator + Copy>(
@@ -48,10 +45,17 @@ pub(crate) struct Record<A: Allocator> {
     pub(crate) kept: Vec<Option<i64>, A>,
     pub(crate) scales: Vec<Scale, A>,
     pub(crate) rms: Vec<Rms, A>,
-    pub(crate) cycle: Option<i64>,
+    pub(crate) cycle: Option<Cycle>,
     pub(crate) is_timed: bool,
     pub(crate) trigger: i64,
     pub(crate) layer: Layer,
+}
+
+impl<A: Allocator> Record<A> {
+    /// The length of a cycle; of 50 Hz where the file gives no line frequency.
+    pub(crate) fn cycle_or_usual(&self) -> Cycle {
+        self.cycle.unwrap_or(Cycle::usual())
+    }
 }
 
 pub(crate) fn record_of<A: Allocator + Copy>(
@@ -62,7 +66,8 @@ pub(crate) fn record_of<A: Allocator + Copy>(
     let is_timed = whole_frame(times).is_some();
     let hertz = nearest_f64(alloc, file.head.line_freq)?;
     let cycle = if is_timed && 0.1 <= hertz && hertz <= 10_000.0 {
-        Some(saturating_f64_to_i64(1e9 / hertz))
+        // (at least 10^5 and at most 10^10, so it is a number of 64 bits)
+        Cycle::of(saturating_f64_to_i64(1e9 / hertz))
     } else {
         None
     };
@@ -93,7 +98,8 @@ pub(crate) struct Choice {
     pub(crate) is_part: bool,
 }
 
-/// A frame with a duration: a single time is extended by this much on both sides.
+/// A frame with a duration: a single time is extended by this much on both sides, as far as times
+/// go, which are numbers of 64 bits.
 pub(crate) fn lasting(frame: Option<Frame>, least: i64) -> Frame {
     match frame {
         Some(frame) if frame.from < frame.to => frame,
@@ -111,8 +117,8 @@ pub(crate) fn choice_of<A: Allocator>(
     record: &Record<A>,
     is_whole: bool,
 ) -> Choice {
-    let cycle = record.cycle.unwrap_or(USUAL_CYCLE);
-    let least = if record.is_timed { cycle } else { 1 };
+    let cycle = record.cycle_or_usual();
+    let least = if record.is_timed { cycle.nanos } else { 1 };
     let whole = lasting(whole_frame(&record.kept), least);
     if record.is_timed && !is_whole {
         let change = last_change(file, &record.kept, cycle);

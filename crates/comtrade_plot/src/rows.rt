@@ -1,18 +1,18 @@
 //! The contents of rows: readings, bits, which rows are lost, and their positions in the picture.
 
-use crate::plan::{Frame, later_change};
+use crate::plan::{Cycle, Frame, later_change};
 use comtrade_format::{File, Row};
 use comtrade_io::ToolFault;
 use dfr_channels::Reading;
 use std::alloc::Allocator;
 
-/// The reading of a channel, counted from 0.
+/// The reading of a channel, counted from 0; missing where the row has no such channel.
 pub(crate) fn reading_at<A: Allocator>(row: &Row<A>, channel: usize) -> Reading {
     let readings = row.values.items();
     readings.get(channel).copied().unwrap_or(Reading::Missing)
 }
 
-/// The bit of a status channel, counted from 0.
+/// The bit of a status channel, counted from 0; 0 where the row has no such channel.
 pub(crate) fn bit_at<A: Allocator>(row: &Row<A>, channel: usize) -> bool {
     row.bits.items().get(channel).copied().unwrap_or(false)
 }
@@ -78,22 +78,21 @@ pub(crate) fn whole_frame(times: &[Option<i64>]) -> Option<Frame> {
     bounds
 }
 
-/// The numbers of rows from 1 on, for files that do not say when their rows were taken.
+/// The numbers of rows from 1 on, for files that do not say when their rows were taken; None for
+/// one that is no signed number of 64 bits.
 pub(crate) fn numbers_of<A: Allocator + Copy>(
     alloc: A,
     count: usize,
 ) -> Result<Vec<Option<i64>, A>, ToolFault> {
     let mut numbers = Vec::with_capacity(alloc, count)?;
-    let mut number = 0i64;
-    for _ in 0..count {
-        number = number.saturating_add(1);
-        numbers.push(Some(number))?;
+    for number in 1..=count {
+        numbers.push(i64::try_from(number).ok())?;
     }
     Ok(numbers)
 }
 
 /// When the last status channel changed, of the changes that belong to the fault.
-pub(crate) fn last_change<A: Allocator>(file: &File<A>, kept: &[Option<i64>], cycle: i64) -> i64 {
+pub(crate) fn last_change<A: Allocator>(file: &File<A>, kept: &[Option<i64>], cycle: Cycle) -> i64 {
     let mut last = 0;
     let mut before: Option<&Row<A>> = None;
     for (row, time) in file.rows.items().iter().zip(kept.iter()) {

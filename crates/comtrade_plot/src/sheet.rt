@@ -1,9 +1,10 @@
 //! Text that is built piece by piece, and the elements of an SVG picture. A failed allocation is
 //! remembered until the end.
 
-ghost use Rattle.std.specs.Prelude.{pos, neg_ℤ};
+ghost use Rattle.std.specs.Prelude.{◌<◌, pos, neg_ℤ};
 ghost use Rattle.jiff_core.specs.Calendar.{IsBetween};
 
+use crate::plan::Down;
 use comtrade_io::{ToolFault, put_safe, seen_len, write_out};
 use comtrade_values::{
     Decimal, Exact, put, put_civil, put_count, put_decimal, put_exact, put_number,
@@ -11,13 +12,11 @@ use comtrade_values::{
 use std::alloc::{AllocError, Allocator};
 use std::io::Write;
 
-/// The hexadecimal digit of a number below 16.
-fn hex_digit(n: u8) -> u8 {
-    if n < 10 {
-        b'0'.saturating_add(n)
-    } else {
-        b'a'.saturating_add(n.saturating_sub(10))
-    }
+/// The hexadecimal digit of a number.
+fn hex_digit(n: u8) -> u8
+    requires { n < 16 }
+{
+    if n < 10 { b'0' + n } else { b'a' + (n - 10) }
 }
 
 /// The text so far, and whether an allocation failed on the way.
@@ -80,17 +79,14 @@ impl<A: Allocator> Sheet<A> {
     }
 
     /// Adds units / 10^places, without trailing zeros after the point.
-    pub(crate) fn scaled(&mut self, units: i64, places: i32) {
-        let number = Exact {
-            units: i128::from(units),
-            places,
-        };
+    pub(crate) fn scaled(&mut self, units: i128, places: i32) {
+        let number = Exact { units, places };
         let outcome = put_exact(&mut self.bytes, number);
         self.keep(outcome);
     }
 
     pub(crate) fn signed(&mut self, n: i64) {
-        self.scaled(n, 0);
+        self.scaled(i128::from(n), 0);
     }
 
     /// Adds an instant as `yyyy-mm-dd hh:mm:ss.ssssss`. Its year is from 1 to 9999.
@@ -114,10 +110,10 @@ impl<A: Allocator> Sheet<A> {
     pub(crate) fn name(&mut self, text: &[u8]) {
         let mut left = text;
         for _ in 0..=text.len() {
-            let at = left.iter().position(|b| b"&<>\"".contains(b));
-            let (front, rest) = left
-                .split_at_checked(at.unwrap_or(left.len()))
-                .unwrap_or((left, &[]));
+            let (front, rest) = match left.iter().position(|b| b"&<>\"".contains(b)) {
+                Some(at) => left.split_at(at),
+                None => (left, [].as_slice()),
+            };
             let outcome = put_safe(&mut self.bytes, front);
             self.keep(outcome);
             let Some((sign, more)) = rest.split_first() else {
@@ -161,26 +157,29 @@ impl<A: Allocator> Sheet<A> {
         self.text("\"");
         let mut left = text;
         for _ in 0..text.len() {
-            if left.is_empty() {
+            let Some((first, others)) = left.split_first() else {
                 break;
-            }
-            let count = seen_len(left).max(1);
-            let (front, rest) = left.split_at_checked(count).unwrap_or((left, &[]));
-            match front {
-                [b] => self.json_byte(*b),
-                _ => self.raw(front),
-            }
-            left = rest;
+            };
+            let count = seen_len(left);
+            left = if count < 2 {
+                self.json_byte(*first);
+                others
+            } else {
+                // (a character that is seen is whole: the text has its bytes)
+                let (front, rest) = left.split_at_checked(count).unwrap_or((left, &[]));
+                self.raw(front);
+                rest
+            };
         }
         self.text("\"");
     }
 
     /// Opens a text element: `<text x=.. y=..`, then these attributes, up to the text.
-    pub(crate) fn begin_text(&mut self, x: u32, y: u32, rest: &str) {
+    pub(crate) fn begin_text(&mut self, x: u32, y: Down, rest: &str) {
         self.text("<text x=\"");
         self.tenths(x);
         self.text("\" y=\"");
-        self.tenths(y);
+        self.tenths(y.tenths);
         self.texts(&["\"", rest, ">"]);
     }
 
@@ -189,7 +188,7 @@ impl<A: Allocator> Sheet<A> {
     }
 
     /// Adds a text at a position.
-    pub(crate) fn label(&mut self, x: u32, y: u32, rest: &str, text: &str) {
+    pub(crate) fn label(&mut self, x: u32, y: Down, rest: &str, text: &str) {
         self.begin_text(x, y, rest);
         self.text(text);
         self.end_text();

@@ -78,7 +78,7 @@ fn point_of<A: Allocator>(
 ) -> Option<(u32, u32)> {
     let x = place?;
     match reading_at(row, at) {
-        Reading::Value(sample) => Some((x, panel.level(scale.value(sample)))),
+        Reading::Value(sample) => Some((x, panel.level(scale.value(sample)).tenths)),
         Reading::Missing => None,
     }
 }

@@ -1,5 +1,7 @@
 //! Units, with or without a prefix, and the prefixes of large and small values.
 
+ghost use Rattle.std.specs.Prelude.{◌≤ℤ◌, pos};
+
 use crate::sheet::Sheet;
 use std::alloc::Allocator;
 
@@ -8,7 +10,7 @@ use std::alloc::Allocator;
 #[derive(Clone, Copy)]
 pub(crate) struct Unit<'a> {
     pub(crate) base: &'a [u8],
-    pub(crate) exponent: i32,
+    pub(crate) exponent: i8,
     pub(crate) takes_prefixes: bool,
 }
 
@@ -85,30 +87,48 @@ fn prefix_of(exponent: i32) -> Option<&'static str> {
     }
 }
 
-/// The power of a thousand, as a power of ten, that brings a size between 1 and 1000.
-fn thousands(size: f64) -> i32 {
+/// The greatest power of a thousand that is tried: floats have none beyond it.
+const THOUSANDS: i16 = 110;
+
+/// How often a size is divided by 1000 until it is below 1000, and what is left.
+fn divided(size: f64) -> (i16, f64)
+    ensures least { pos 0 ≤ℤ result.0 }
+    ensures most { result.0 ≤ℤ pos 110 }
+{
     let mut left = size;
-    let mut exponent = 0i32;
-    for _ in 0..110 {
+    for times in 0..THOUSANDS {
         if left < 1000.0 {
-            break;
+            return (times, left);
         }
         left /= 1000.0;
-        exponent = exponent.saturating_add(3);
     }
-    for _ in 0..110 {
+    (THOUSANDS, left)
+}
+
+/// How often a size is multiplied by 1000 until it is at least 1; never, if it is 0 or below.
+fn multiplied(size: f64) -> i16
+    ensures least { pos 0 ≤ℤ result }
+    ensures most { result ≤ℤ pos 110 }
+{
+    let mut left = size;
+    for times in 0..THOUSANDS {
         if 1.0 <= left || left <= 0.0 {
-            break;
+            return times;
         }
         left *= 1000.0;
-        exponent = exponent.saturating_sub(3);
     }
-    exponent
+    THOUSANDS
+}
+
+/// The power of a thousand, as a power of ten, that brings a size between 1 and 1000.
+fn thousands(size: f64) -> i16 {
+    let (times, left) = divided(size);
+    3 * (times - multiplied(left))
 }
 
 /// The power of ten by which values of a size are divided for display in a unit; none where a unit
 /// without prefixes needs none.
-pub(crate) fn shown_exponent(unit: Unit<'_>, size: f64) -> i32 {
+pub(crate) fn shown_exponent(unit: Unit<'_>, size: f64) -> i16 {
     if !unit.takes_prefixes && 0.001 <= size && size < 1e6 {
         return 0;
     }
@@ -116,7 +136,7 @@ pub(crate) fn shown_exponent(unit: Unit<'_>, size: f64) -> i32 {
 }
 
 /// 10^exponent, or near it where that is not a whole power.
-pub(crate) fn power_of_ten(exponent: i32) -> f64 {
+pub(crate) fn power_of_ten(exponent: i16) -> f64 {
     let mut power = 1.0;
     for _ in 0..exponent.unsigned_abs().min(300) {
         power *= 10.0;
@@ -125,8 +145,8 @@ pub(crate) fn power_of_ten(exponent: i32) -> f64 {
 }
 
 /// A unit of values that were divided by a power of ten.
-pub(crate) fn put_unit<A: Allocator>(sheet: &mut Sheet<A>, unit: Unit<'_>, exponent: i32) {
-    let whole = exponent.saturating_add(unit.exponent);
+pub(crate) fn put_unit<A: Allocator>(sheet: &mut Sheet<A>, unit: Unit<'_>, exponent: i16) {
+    let whole = i32::from(exponent) + i32::from(unit.exponent);
     match prefix_of(whole) {
         Some(prefix) if unit.takes_prefixes => sheet.text(prefix),
         _ => {

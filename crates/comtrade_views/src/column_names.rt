@@ -1,8 +1,9 @@
 //! The column names of comma-separated values: the first line.
 
+use crate::number::put_ordinal;
 use comtrade_format::Head;
 use comtrade_io::{ToolFault, fault_of, put_safe};
-use comtrade_values::{put, put_with};
+use comtrade_values::put;
 use csv::{Error, ErrorKind, Terminator, Writer, WriterBuilder};
 use std::alloc::{AllocError, Allocator};
 use std::collections::BTreeMap;
@@ -40,12 +41,13 @@ fn put_name_of<A: Allocator>(cell: &mut Vec<u8, A>, id: &[u8]) -> Result<(), All
 /// How often a name has occurred before; counts it once more.
 fn times_seen<A: Allocator + Copy>(
     name: &[u8],
-    seen: &mut BTreeMap<Vec<u8, A>, u64, A>,
+    seen: &mut BTreeMap<Vec<u8, A>, usize, A>,
     alloc: A,
-) -> Result<u64, ToolFault> {
+) -> Result<usize, ToolFault> {
     let name = Vec::from_slice(alloc, name)?;
     let count = seen.entry(name)?.or_insert(0);
     let before = *count;
+    // (there is memory for fewer names than a number of 64 bits)
     *count = before.saturating_add(1);
     Ok(before)
 }
@@ -54,12 +56,12 @@ fn times_seen<A: Allocator + Copy>(
 fn end_name<A: Allocator + Copy, W: Write>(
     table: &mut Writer<&mut W>,
     cell: &mut Vec<u8, A>,
-    seen: &mut BTreeMap<Vec<u8, A>, u64, A>,
+    seen: &mut BTreeMap<Vec<u8, A>, usize, A>,
 ) -> Result<(), ToolFault> {
     let alloc = *cell.allocator();
     let before = times_seen(cell.as_slice(), seen, alloc)?;
     if before != 0 {
-        put_with(cell, " (", before.saturating_add(1))?;
+        put_ordinal(cell, " (", before)?;
         put(cell, ")")?;
     }
     end_cell(table, cell)
@@ -71,7 +73,7 @@ fn put_channel_names<A: Allocator + Copy, W: Write>(
     table: &mut Writer<&mut W>,
     cell: &mut Vec<u8, A>,
     head: &Head<A>,
-    seen: &mut BTreeMap<Vec<u8, A>, u64, A>,
+    seen: &mut BTreeMap<Vec<u8, A>, usize, A>,
 ) -> Result<(), ToolFault> {
     for channel in head.analog.items() {
         put_name_of(cell, channel.id.items())?;

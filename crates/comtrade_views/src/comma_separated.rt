@@ -101,9 +101,9 @@ impl<A: Allocator> Lines<A> {
 
     /// The cells of a row's bits.
     fn put_bits(&mut self, bits: &[bool]) -> Result<(), AllocError> {
-        for (i, bit) in bits.iter().enumerate() {
-            if let Some(cell) = self.bits.get_mut(i.wrapping_mul(2).wrapping_add(1)) {
-                *cell = if *bit { b'1' } else { b'0' };
+        for i in 0..bits.len() {
+            if let Some(cell) = self.bits.get_mut(2 * i + 1) {
+                *cell = if bits[i] { b'1' } else { b'0' };
             }
         }
         self.text.extend_from_slice(&self.bits)

@@ -2,9 +2,9 @@
 
 use crate::events::Event;
 use crate::instant::{put_instant, put_millis};
+use crate::number::put_ordinal;
 use crate::table::{end_cell, end_row, put_table, table_of};
 use comtrade_io::{ToolFault, put_safe};
-use comtrade_values::put_with;
 use std::alloc::{AllocError, Allocator};
 
 /// The columns of the table of one record.
@@ -12,6 +12,11 @@ const ONE: &str = "instant\x1Fms since trigger\x1Fsince before\x1Fwhat\x1F\n";
 
 /// The columns of the table of several records.
 const MANY: &str = "instant\x1Fms since trigger\x1Fsince before\x1Frecord\x1Fwhat\x1F\n";
+
+/// Nanoseconds as microseconds, to the nearest.
+fn micros_of(nanos: i128) -> i128 {
+    nanos.div_euclid(1000) + (500 <= nanos.rem_euclid(1000)) as i128
+}
 
 /// A line of the table: the instant, how long it is after the trigger and after the event before
 /// it, the record if there are several, and what happened.
@@ -21,13 +26,14 @@ fn put_event<A: Allocator>(
     before: Option<i128>,
     names: &[String],
 ) -> Result<(), AllocError> {
-    match event.at {
-        Some(nanos) => put_instant(table, nanos.saturating_add(500).div_euclid(1000))?,
-        None => put_with(table, "row ", event.row)?,
+    match (event.at, event.row) {
+        (Some(nanos), _) => put_instant(table, micros_of(nanos))?,
+        (None, Some(row)) => put_ordinal(table, "row ", row)?,
+        (None, None) => {}
     }
     end_cell(table)?;
     let since_before = match (before, event.at) {
-        (Some(before), Some(at)) => Some(at.saturating_sub(before)),
+        (Some(before), Some(at)) => at.checked_sub(before),
         _ => None,
     };
     for nanos in [event.since, since_before] {

@@ -20,8 +20,8 @@ pub struct Event<A: Allocator = Global> {
     pub(crate) since: Option<i128>,
     /// The record's index in the list, from 0.
     pub(crate) record: usize,
-    /// The number of the row, from 1; 0 for a trigger.
-    pub(crate) row: u64,
+    /// The index of the row, from 0; None for a trigger.
+    pub(crate) row: Option<usize>,
     pub(crate) text: Vec<u8, A>,
 }
 
@@ -32,8 +32,8 @@ struct Source<'a, A: Allocator> {
     file: &'a File<A>,
     /// Its index in the list, from 0.
     record: usize,
-    /// The trigger, in nanoseconds since 1970-01-01 00:00:00.
-    trigger: i128,
+    /// The trigger, in microseconds since 1970-01-01 00:00:00.
+    trigger: i64,
     /// Nanoseconds since the trigger.
     times: &'a [Option<i64>],
 }
@@ -43,15 +43,18 @@ fn event_at<A: Allocator + Copy>(source: &Source<'_, A>, row: usize) -> Event<A>
     ensures place { result.record ≡ source.now.record }
     ensures text { result.text.items ≡ [] }
 {
-    let since = match time_at(source.times, row) {
-        Some(nanos) => Some(nanos as i128),
-        None => None,
+    let (at, since) = match time_at(source.times, row) {
+        Some(nanos) => (
+            Some(source.trigger as i128 * 1000 + nanos as i128),
+            Some(nanos as i128),
+        ),
+        None => (None, None),
     };
     Event {
-        at: since.map(|nanos| source.trigger.saturating_add(nanos)),
+        at,
         since,
         record: source.record,
-        row: (row as u64).saturating_add(1),
+        row: Some(row),
         text: Vec::new(source.alloc),
     }
 }
@@ -140,10 +143,10 @@ fn add_trigger<A: Allocator + Copy>(
     let mut text = Vec::new(source.alloc);
     put_trigger(&mut text, source.file)?;
     events.push(Event {
-        at: Some(source.trigger),
+        at: Some(source.trigger as i128 * 1000),
         since: Some(0),
         record: source.record,
-        row: 0,
+        row: None,
         text,
     })?;
     Ok(())
@@ -161,7 +164,7 @@ pub fn add_events<A: Allocator + Copy>(
         alloc,
         file,
         record,
-        trigger: file.head.trigger as i128 * 1000,
+        trigger: file.head.trigger,
         times: &times,
     };
     add_trigger(events, &source)?;
@@ -173,7 +176,7 @@ pub fn add_events<A: Allocator + Copy>(
 pub fn sort_events<A: Allocator + Copy>(events: &mut Vec<Event<A>, A>) -> Result<(), ToolFault> {
     events.sort_by_key(|event| {
         let is_late = event.at.is_none();
-        (is_late, event.at.unwrap_or(0), event.record, event.row)
+        (is_late, event.at, event.record, event.row)
     })?;
     Ok(())
 }

@@ -5,7 +5,8 @@ use ryu::Buffer;
 use std::alloc::{AllocError, Allocator};
 use std::num::saturating_f64_to_i64;
 
-/// A float as its shortest decimal; None where it is not a number.
+/// A float as its shortest decimal, as `1.5E-7`, with or without the point and the exponent; None
+/// where it is not a number.
 fn number_of(x: f64) -> Option<Exact> {
     let size = x.abs();
     if !size.is_finite() {
@@ -19,42 +20,21 @@ fn number_of(x: f64) -> Option<Exact> {
     let mut units = 0i128;
     for b in whole.bytes().chain(places.bytes()) {
         if b.is_ascii_digit() {
-            units = units
-                .saturating_mul(10)
-                .saturating_add(i128::from(b.saturating_sub(b'0')));
+            units = units.checked_mul(10)?.checked_add(i128::from(b - b'0'))?;
         }
     }
     Some(Exact {
-        units: if x < 0.0 {
-            units.saturating_mul(-1)
-        } else {
-            units
-        },
-        places: i32::try_from(places.len()).ok()?.saturating_sub(exponent),
+        units: if x < 0.0 { units.checked_neg()? } else { units },
+        places: i32::try_from(places.len()).ok()?.checked_sub(exponent)?,
     })
 }
 
-/// How many digits a float is written with: six, but 0 where its size is at most a 10^9th of
-/// another one; or as many as are needed to read it back exactly.
-#[derive(Clone, Copy)]
-pub(crate) enum Digits {
-    Six(f64),
-    All,
-}
-
-/// A float with this many digits.
+/// A float with six digits; 0 where its size is at most a 10^9th of another one.
 pub(crate) fn put_float<A: Allocator>(
     out: &mut Vec<u8, A>,
     x: f64,
-    digits: Digits,
+    beside: f64,
 ) -> Result<(), AllocError> {
-    let beside = match digits {
-        Digits::Six(beside) => beside,
-        Digits::All if x.is_finite() => {
-            return out.extend_from_slice(Buffer::new().format_finite(x).as_bytes());
-        }
-        Digits::All => return out.extend_from_slice(b"-"),
-    };
     if x.abs() <= beside * 1e-9 {
         return out.extend_from_slice(b"0");
     }
@@ -75,6 +55,7 @@ pub(crate) fn put_places<A: Allocator>(
         scaled *= 10.0;
     }
     let half = if scaled < 0.0 { -0.5 } else { 0.5 };
+    // (a size of 10^18 and more is written as the nearest number of 64 bits)
     put_exact(
         out,
         Exact {

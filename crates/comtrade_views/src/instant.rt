@@ -64,7 +64,10 @@ impl<A: Allocator> InstantText<A> {
 
     /// The text of an instant, as [`put_instant`] writes it.
     pub(crate) fn of(&mut self, instant: i128) -> Result<&[u8], AllocError> {
-        let micros = i64::try_from(instant).unwrap_or(i64::MAX);
+        let Ok(micros) = i64::try_from(instant) else {
+            self.renew(instant)?;
+            return Ok(&self.text);
+        };
         let second = micros.div_euclid(1_000_000);
         if self.second == Some(second) {
             self.text.truncate(TO_POINT);

@@ -7,6 +7,7 @@ ghost use Rattle.comtrade_views.specs.Spellings as spec;
 use crate::table::CELL;
 use comtrade_io::put_safe;
 use comtrade_values::put;
+use serde::Serialize;
 use std::alloc::{AllocError, Global};
 
 /// A text from a file in quotation marks. Its bytes outside 20 to 7E are written in hexadecimal, as
@@ -19,11 +20,34 @@ pub fn put_text(alloc: Global, out: &mut Vec<u8>, text: &[u8]) -> Result<(), All
 
 /// A text of printable characters.
 fn put_string(alloc: Global, out: &mut Vec<u8>, text: &[u8]) -> Result<(), AllocError> {
-    let text = str::from_utf8(text).unwrap_or("");
-    match serde_json::to_string(alloc, &text) {
-        Ok(quoted) => put(out, quoted.as_str()),
+    put_value(alloc, out, &String::from_utf8_lossy(alloc, text)?)
+}
+
+/// A text from a file as the value of a member: bytes that are not printable are written in
+/// hexadecimal, as in the text output.
+pub(crate) fn text_of(alloc: Global, text: &[u8]) -> Result<String, AllocError> {
+    let mut safe = Vec::new(alloc);
+    put_safe(&mut safe, text)?;
+    // (this is UTF-8 already)
+    String::from_utf8_lossy(alloc, &safe)
+}
+
+/// A value as JSON. Only memory can fail: the value writes itself, and has no map with odd keys.
+fn put_value<T: Serialize>(alloc: Global, out: &mut Vec<u8>, value: &T) -> Result<(), AllocError> {
+    match serde_json::to_string(alloc, value) {
+        Ok(text) => put(out, text.as_str()),
         Err(_) => Err(AllocError),
     }
+}
+
+/// A value as a line of JSON.
+pub(crate) fn put_json<T: Serialize>(
+    alloc: Global,
+    out: &mut Vec<u8>,
+    value: &T,
+) -> Result<(), AllocError> {
+    put_value(alloc, out, value)?;
+    put(out, "\n")
 }
 
 /// Whether a cell is written as a JSON number or array.

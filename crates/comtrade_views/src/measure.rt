@@ -1,15 +1,16 @@
 //! What is measured in a record.
 
 use crate::cycles::{
-    MeasureFault, Measured, Window, last_cycle, measures_of, phasor_in, reference_in, whole_cycles,
+    MeasureFault, Window, last_cycle, measures_of, phasor_in, reference_in, threes_of, whole_cycles,
 };
 use crate::measure_json::put_measures_json;
 use crate::measure_note::put_note;
 use crate::measure_record::put_record;
-use crate::measure_tables::{Found, put_channels, put_order_table};
-use crate::sequence_table::put_sequences;
+use crate::measure_tables::{Found, channel_table, order_table};
+use crate::number::put_ordinal;
+use crate::sequence_table::sequence_table;
 use crate::show::put_row_time;
-use crate::shown::{Shown, put_cycle};
+use crate::shown::{Shown, put_cycle, put_row_number};
 use crate::table::put_table;
 use comtrade_format::File;
 use comtrade_io::put_safe;
@@ -32,9 +33,9 @@ fn put_window<A: Allocator>(
     window: Window,
     shown: Shown<'_>,
 ) -> Result<(), AllocError> {
-    let last = window.to.saturating_sub(1);
-    put_with(out, "rows       ", shown.number(window.from))?;
-    put_with(out, " to ", shown.number(last))?;
+    let last = window.last();
+    put_row_number(out, "rows       ", shown.number(window.from))?;
+    put_row_number(out, " to ", shown.number(last))?;
     put(out, ", ")?;
     put_row_time(out, shown.clock(), window.from)?;
     put(out, " to ")?;
@@ -56,7 +57,7 @@ fn put_reference<A: Allocator>(
     };
     match (reference, channel) {
         (Some(place), Some(channel)) => {
-            put_with(out, "reference  channel ", (place as u64).saturating_add(1))?;
+            put_ordinal(out, "reference  channel ", place)?;
             put(out, ", ")?;
             put_safe(out, channel.id.items())?;
             put(out, "\n")
@@ -65,89 +66,62 @@ fn put_reference<A: Allocator>(
     }
 }
 
-/// What was measured over whole cycles: its rows, the reference's index, the tables of channels,
-/// harmonics and sequence components, and the note on residuals.
-#[derive(Drop)]
-pub(crate) struct Measures<A: Allocator> {
+/// What was measured over whole cycles, and the reference's index.
+#[derive(Clone, Copy)]
+pub(crate) struct Measures {
     pub(crate) window: Window,
     pub(crate) reference: Option<usize>,
-    pub(crate) channels: Vec<u8, A>,
-    pub(crate) orders: Vec<u8, A>,
-    pub(crate) sequences: Vec<u8, A>,
-    pub(crate) note: Vec<u8, A>,
 }
 
-/// The tables of what was measured of channels.
-fn put_tables<A: Allocator + Copy>(
-    alloc: A,
-    made: &mut Measures<A>,
-    found: &Found<'_, A>,
-) -> Result<(), Memory> {
-    put_channels(&mut made.channels, found)?;
-    put_order_table(&mut made.orders, found)?;
-    put_note(&mut made.note, found)?;
-    put_sequences(alloc, &mut made.sequences, found)
-}
-
-/// What was measured of channels over a window's whole cycles.
-fn measures_with<A: Allocator + Copy>(
-    alloc: A,
-    file: &File<A>,
-    window: Window,
-    name: Option<&str>,
-    shown: Shown<'_>,
-    measures: &[Option<Measured<A>>],
-) -> Result<Measures<A>, MeasureFault> {
-    let place = reference_in(&file.head, measures, name)?;
-    let found = Found {
-        file,
-        measures,
-        reference: match place {
-            Some(place) => phasor_in(measures, place),
-            None => None,
-        },
-        shown,
-    };
-    let mut made = Measures {
-        window,
-        reference: place,
-        channels: Vec::new(alloc),
-        orders: Vec::new(alloc),
-        sequences: Vec::new(alloc),
-        note: Vec::new(alloc),
-    };
-    put_tables(alloc, &mut made, &found)?;
-    Ok(made)
-}
-
-/// What was measured, as text.
-fn put_measures<A: Allocator>(
+/// The tables of channels and harmonics, and the note on residuals.
+fn put_channel_tables<A: Allocator + Copy>(
+    lists: A,
     out: &mut Vec<u8>,
-    file: &File<A>,
-    measures: &Measures<A>,
-    shown: Shown<'_>,
+    window: Window,
+    found: &Found<'_, A>,
 ) -> Result<(), AllocError> {
-    put_window(out, measures.window, shown)?;
-    put_reference(out, file, measures.reference)?;
     put(
         out,
         "\nrms of the whole signal; magnitude (rms) and angle (degrees) of the fundamental\n",
     )?;
-    put_table(out, &measures.channels)?;
-    let orders = measures.window.orders() as u64;
-    put_with(out, "\nharmonics from 2 to ", orders)?;
+    put_table(out, &channel_table(lists, found)?)?;
+    put_with(out, "\nharmonics from 2 to ", window.orders() as u64)?;
     put(out, " of at least 0.1 % of the magnitude, in %\n")?;
-    put_table(out, &measures.orders)?;
-    put(out, str::from_utf8(&measures.note).unwrap_or(""))?;
-    let lines = measures.sequences.iter().filter(|b| **b == b'\n').count();
-    if lines <= 1 {
-        return put(
+    put_table(out, &order_table(lists, found)?)?;
+    put_note(out, found)
+}
+
+/// The sequence components, or that there are none.
+fn put_sequences<A: Allocator + Copy>(
+    lists: A,
+    out: &mut Vec<u8>,
+    found: &Found<'_, A>,
+) -> Result<(), Memory> {
+    let file = found.file;
+    let threes = threes_of(lists, file.head.analog.items())?;
+    if threes.is_empty() {
+        put(
             out,
             "\nno sequence components: no three channels of the same unit have phases A, B and C\n",
-        );
+        )?;
+        return Ok(());
     }
     put(out, "\nsequence components\n")?;
-    put_table(out, &measures.sequences)
+    put_table(out, &sequence_table(lists, found, &threes)?)?;
+    Ok(())
+}
+
+/// What was measured, as text.
+fn put_measures<A: Allocator + Copy>(
+    lists: A,
+    out: &mut Vec<u8>,
+    measures: Measures,
+    found: &Found<'_, A>,
+) -> Result<(), Memory> {
+    put_window(out, measures.window, found.shown)?;
+    put_reference(out, found.file, measures.reference)?;
+    put_channel_tables(lists, out, measures.window, found)?;
+    put_sequences(lists, out, found)
 }
 
 /// What is measured over a window's whole cycles, as text or as JSON.
@@ -161,11 +135,24 @@ fn put_window_of<A: Allocator + Copy>(
     shown: Shown<'_>,
 ) -> Result<(), MeasureFault> {
     let measures = measures_of(lists, file, window)?;
-    let made = measures_with(lists, file, window, name, shown, &measures)?;
+    let place = reference_in(&file.head, &measures, name)?;
+    let found = Found {
+        file,
+        measures: &measures,
+        reference: match place {
+            Some(place) => phasor_in(&measures, place),
+            None => None,
+        },
+        shown,
+    };
+    let made = Measures {
+        window,
+        reference: place,
+    };
     let outcome = if shown.json {
-        put_measures_json(alloc, out, &made, shown)
+        put_measures_json(alloc, lists, out, made, &found)
     } else {
-        put_measures(out, file, &made, shown)
+        put_measures(lists, out, made, &found)
     };
     Ok(outcome?)
 }

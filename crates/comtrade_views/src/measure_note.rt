@@ -62,8 +62,8 @@ fn greatest_share<A: Allocator>(found: &Found<'_, A>) -> Option<(usize, f64)> {
 }
 
 /// A line on the greatest residual, if it is above 2 percent of the channel's magnitude.
-pub(crate) fn put_note<A: Allocator>(
-    out: &mut Vec<u8, A>,
+pub(crate) fn put_note<A: Allocator, B: Allocator>(
+    out: &mut Vec<u8, B>,
     found: &Found<'_, A>,
 ) -> Result<(), AllocError> {
     let file = found.file;

@@ -2,13 +2,16 @@
 
 use crate::cycles::{Course, Followed, MeasureFault, Window, courses_of, spans_of};
 use crate::float::put_places;
-use crate::json::put_rows_json;
+use crate::json::{put_json, text_of};
 use crate::measure_tables::put_float_cell;
+use crate::number::ordinal;
 use crate::show::put_row_time;
 use crate::shown::{Shown, put_channel, put_cycle_of};
-use crate::table::{end_cell, end_row, put_number_cell, put_table};
+use crate::table::{end_cell, end_row, put_table, table_of};
 use comtrade_format::{File, nearest_f64};
-use comtrade_values::{put, put_with};
+use comtrade_values::{put, put_number, put_with};
+use dfr_channels::AnalogChannel;
+use serde::Serialize;
 use std::alloc::{AllocError, Allocator, Global};
 
 /// The cells of a fault inception: when and where it is, and the current before and after it.
@@ -20,9 +23,10 @@ fn put_course<A: Allocator>(
 ) -> Result<(), AllocError> {
     put_row_time(table, shown.clock(), course.row)?;
     end_cell(table)?;
-    put_number_cell(table, shown.number(course.row))?;
-    put_float_cell(table, course.before, shown.digits(course.greatest))?;
-    put_float_cell(table, course.greatest, shown.digits(0.0))?;
+    put_number(table, shown.number(course.row))?;
+    end_cell(table)?;
+    put_float_cell(table, course.before, course.greatest)?;
+    put_float_cell(table, course.greatest, 0.0)?;
     put_places(table, course.above / frequency * 1000.0, 3)?;
     end_cell(table)?;
     end_row(table)
@@ -44,37 +48,100 @@ fn put_no_course<A: Allocator>(
     put(table, "\x1F\n")
 }
 
-/// The table of all currents, below a line of column names; returns the number of currents.
-fn put_courses<A: Allocator + Copy>(
+/// The table of these currents, below a line of column names.
+fn course_table<A: Allocator>(
     alloc: A,
-    table: &mut Vec<u8, A>,
     file: &File<A>,
-    spans: &[Window],
+    followed: &[Followed<A>],
+    frequency: f64,
     shown: Shown<'_>,
-) -> Result<u64, MeasureFault> {
-    put(
-        table,
+) -> Result<Vec<u8, A>, AllocError> {
+    let mut table = table_of(
+        alloc,
         "n\x1Fid\x1Fphase\x1Funit\x1Fleft at ms\x1Frow\x1Frms before\x1Fgreatest rms\x1Fms above twice that before\x1F\n",
     )?;
-    let frequency = nearest_f64(alloc, file.head.line_freq)?;
-    let followed = courses_of(alloc, file, spans)?;
-    for current in followed.iter() {
+    for current in followed {
         let Some(channel) = file.head.analog.items().get(current.place) else {
             break;
         };
         for course in current.courses.iter() {
-            put_channel(table, current.place, channel)?;
-            put_course(table, *course, frequency, shown)?;
+            put_channel(&mut table, current.place, channel)?;
+            put_course(&mut table, *course, frequency, shown)?;
         }
         if current.courses.is_empty() {
-            put_channel(table, current.place, channel)?;
-            put_no_course(table, current)?;
+            put_channel(&mut table, current.place, channel)?;
+            put_no_course(&mut table, current)?;
         }
     }
-    Ok(followed.len() as u64)
+    Ok(table)
 }
 
-const COURSES: &str = "n# id phase unit left_ms# left_row# rms_before# rms_greatest# above_ms#";
+/// A fault inception of a current; nothing where none was found.
+#[derive(Drop, Serialize)]
+struct CurrentMembers {
+    n: u128,
+    id: String,
+    phase: String,
+    unit: String,
+    left_ms: Option<f64>,
+    left_row: Option<u128>,
+    rms_before: Option<f64>,
+    rms_greatest: Option<f64>,
+    above_ms: Option<f64>,
+}
+
+/// The fault inceptions of a record.
+#[derive(Drop, Serialize)]
+struct Members {
+    currents: Vec<CurrentMembers>,
+}
+
+/// A current, with a fault inception if there is one.
+fn current_members<A: Allocator>(
+    alloc: Global,
+    place: usize,
+    channel: &AnalogChannel<A>,
+    course: Option<Course>,
+    frequency: f64,
+    shown: Shown<'_>,
+) -> Result<CurrentMembers, AllocError> {
+    Ok(CurrentMembers {
+        n: ordinal(place),
+        id: text_of(alloc, channel.id.items())?,
+        phase: text_of(alloc, channel.phase.items())?,
+        unit: text_of(alloc, channel.unit.items())?,
+        left_ms: course.and_then(|course| shown.millis_at(course.row)),
+        left_row: course.map(|course| shown.number(course.row)),
+        rms_before: course.map(|course| course.before),
+        rms_greatest: course.map(|course| course.greatest),
+        above_ms: course.map(|course| course.above / frequency * 1000.0),
+    })
+}
+
+/// The fault inceptions of these currents, in one list.
+fn members_of<A: Allocator>(
+    alloc: Global,
+    file: &File<A>,
+    followed: &[Followed<A>],
+    frequency: f64,
+    shown: Shown<'_>,
+) -> Result<Members, AllocError> {
+    let mut currents = Vec::new(alloc);
+    for current in followed {
+        let place = current.place;
+        let Some(channel) = file.head.analog.items().get(place) else {
+            break;
+        };
+        for course in current.courses.iter() {
+            let course = Some(*course);
+            currents.push(current_members(alloc, place, channel, course, frequency, shown)?)?;
+        }
+        if current.courses.is_empty() {
+            currents.push(current_members(alloc, place, channel, None, frequency, shown)?)?;
+        }
+    }
+    Ok(Members { currents })
+}
 
 /// What the table of currents shows, and the rows per cycle of each rate.
 fn put_caption<A: Allocator>(out: &mut Vec<u8, A>, spans: &[Window]) -> Result<(), AllocError> {
@@ -103,17 +170,23 @@ pub(crate) fn put_record<A: Allocator + Copy>(
     shown: Shown<'_>,
 ) -> Result<(), MeasureFault> {
     let spans = spans_of(lists, file, 8)?;
-    let mut table = Vec::new(lists);
-    let count = put_courses(lists, &mut table, file, &spans, shown)?;
+    let frequency = nearest_f64(lists, file.head.line_freq)?;
+    let followed = courses_of(lists, file, &spans)?;
     if shown.json {
-        put_rows_json(alloc, out, "{\"currents\":", COURSES, &table)?;
-        put(out, "}\n")?;
-    } else if count == 0 {
+        put_json(
+            alloc,
+            out,
+            &members_of(alloc, file, &followed, frequency, shown)?,
+        )?;
+    } else if followed.is_empty() {
         let none = "no current channels: no channel has the unit A, with or without a prefix\n";
         put(out, none)?;
     } else {
         put_caption(out, &spans)?;
-        put_table(out, &table)?;
+        put_table(
+            out,
+            &course_table(lists, file, &followed, frequency, shown)?,
+        )?;
     }
     Ok(())
 }

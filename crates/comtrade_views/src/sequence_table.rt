@@ -1,11 +1,10 @@
 //! The table of sequence components.
 
-use crate::cycles::{Components, Phasor, Three, components_of, threes_of};
+use crate::cycles::{Components, Phasor, Three, components_of};
 use crate::measure_tables::{Found, MISSING, put_angle_cell, put_float_cell};
-use crate::shown::Shown;
-use crate::table::{end_cell, end_row};
+use crate::table::{end_cell, end_row, table_of};
 use comtrade_io::put_safe;
-use comtrade_values::{Memory, put};
+use comtrade_values::put;
 use dfr_channels::AnalogChannel;
 use std::alloc::{AllocError, Allocator};
 
@@ -14,18 +13,13 @@ fn put_sequence<A: Allocator>(
     table: &mut Vec<u8, A>,
     sequence: Components,
     reference: Option<Phasor>,
-    shown: Shown<'_>,
 ) -> Result<(), AllocError> {
-    let beside = sequence
-        .positive
-        .magnitude()
-        .max(sequence.negative.magnitude())
-        .max(sequence.zero.magnitude());
+    let beside = sequence.greatest();
     for phasor in [sequence.positive, sequence.negative, sequence.zero] {
         let has_angle = beside * 1e-9 < phasor.magnitude();
         let reference = if has_angle { reference } else { None };
-        put_float_cell(table, phasor.magnitude(), shown.digits(beside))?;
-        put_angle_cell(table, phasor, reference, shown)?;
+        put_float_cell(table, phasor.magnitude(), beside)?;
+        put_angle_cell(table, phasor, reference)?;
     }
     end_row(table)
 }
@@ -48,25 +42,24 @@ fn put_three<A: Allocator>(
     end_cell(table)
 }
 
-/// The table of sequence components.
-pub(crate) fn put_sequences<A: Allocator + Copy>(
+/// The table of sequence components of these channels.
+pub(crate) fn sequence_table<A: Allocator>(
     alloc: A,
-    table: &mut Vec<u8, A>,
     found: &Found<'_, A>,
-) -> Result<(), Memory> {
-    put(
-        table,
+    threes: &[Three],
+) -> Result<Vec<u8, A>, AllocError> {
+    let mut table = table_of(
+        alloc,
         "A\x1FB\x1FC\x1Funit\x1Fpositive\x1Fangle\x1Fnegative\x1Fangle\x1Fzero\x1Fangle\x1F\n",
     )?;
     let file = found.file;
     let channels = file.head.analog.items();
-    let threes = threes_of(alloc, channels)?;
-    for three in threes.iter() {
-        put_three(table, channels, *three)?;
+    for three in threes {
+        put_three(&mut table, channels, *three)?;
         match components_of(found.measures, *three) {
-            Some(sequence) => put_sequence(table, sequence, found.reference, found.shown)?,
-            None => put(table, MISSING)?,
+            Some(sequence) => put_sequence(&mut table, sequence, found.reference)?,
+            None => put(&mut table, MISSING)?,
         }
     }
-    Ok(())
+    Ok(table)
 }

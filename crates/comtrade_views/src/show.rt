@@ -90,7 +90,7 @@ fn put_data<A: Allocator>(
     put(out, " us")?;
     if let (Some(Some(first)), Some(Some(last))) = (clock.times.first(), clock.times.last()) {
         put(out, ", ")?;
-        put_millis(out, (*last as i128).saturating_sub(*first as i128))?;
+        put_millis(out, *last as i128 - *first as i128)?;
         put(out, " ms long")?;
     }
     put(out, "\n")

@@ -5,14 +5,15 @@ ghost use Rattle.comtrade_io.specs.Safe.{safe};
 ghost use Rattle.comtrade_views.specs.Texts.{cell};
 
 use crate::cycles::Window;
-use crate::float::{Digits, put_float};
-use crate::number::put_ordinal;
+use crate::float::put_float;
+use crate::number::{ordinal, put_ordinal};
 use crate::show::Clock;
 use crate::table::{end_cell, put_safe_cell};
-use comtrade_values::put;
+use crate::times::time_at;
+use comtrade_values::{put, put_number};
 use dfr_channels::AnalogChannel;
 use std::alloc::{AllocError, Allocator};
-use std::num::nearest_u64_to_f64;
+use std::num::{nearest_i64_to_f64, nearest_u64_to_f64};
 
 /// The rows that are shown: when they were taken, in nanoseconds since the trigger; the index, from
 /// 0, of the first of them; whether as JSON, with all digits.
@@ -31,20 +32,17 @@ impl<'a> Shown<'a> {
         }
     }
 
-    /// The number of digits of a value shown next to another one.
-    pub(crate) fn digits(self, beside: f64) -> Digits {
-        if self.json {
-            Digits::All
-        } else {
-            Digits::Six(beside)
-        }
+    /// The number of a row, from 1.
+    pub(crate) fn number(self, row: usize) -> u128 {
+        self.first as u128 + ordinal(row)
     }
 
-    /// The number of a row, from 1.
-    pub(crate) fn number(self, row: usize) -> u64 {
-        (self.first as u64)
-            .saturating_add(row as u64)
-            .saturating_add(1)
+    /// When a row was taken, in milliseconds since the trigger, to the nearest microsecond, if that
+    /// is known.
+    pub(crate) fn millis_at(self, row: usize) -> Option<f64> {
+        let nanos = time_at(self.times, row)?;
+        let micros = nanos.div_euclid(1000) + (500 <= nanos.rem_euclid(1000)) as i64;
+        Some(nearest_i64_to_f64(micros) / 1000.0)
     }
 }
 
@@ -54,11 +52,7 @@ pub(crate) fn put_cycle_of<A: Allocator>(
     window: Window,
 ) -> Result<(), AllocError> {
     let rows = nearest_u64_to_f64(window.cycle.rows);
-    put_float(
-        out,
-        rows / nearest_u64_to_f64(window.cycle.cycles),
-        Digits::Six(0.0),
-    )
+    put_float(out, rows / nearest_u64_to_f64(window.cycle.cycles), 0.0)
 }
 
 /// The rows per cycle, as the end of a line.
@@ -68,6 +62,16 @@ pub(crate) fn put_cycle<A: Allocator>(
 ) -> Result<(), AllocError> {
     put_cycle_of(out, window)?;
     put(out, " rows a cycle\n")
+}
+
+/// A text, and the number of a row.
+pub(crate) fn put_row_number<A: Allocator>(
+    out: &mut Vec<u8, A>,
+    text: &str,
+    number: u128,
+) -> Result<(), AllocError> {
+    put(out, text)?;
+    put_number(out, number)
 }
 
 /// The cells that name a channel: number, id, phase and unit.

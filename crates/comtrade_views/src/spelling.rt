@@ -12,22 +12,37 @@ pub struct Spelling {
 
 impl Spelling {
     /// The spelling that a user asks for: one printable character or `tab` as separator, a point or
-    /// a comma as decimal sign; None for anything else, or for the same sign as both.
+    /// a comma as decimal sign; without words a comma and a point. None for anything else, or for
+    /// the same sign as both.
     pub fn of(separator: Option<&str>, decimal: Option<&str>) -> Option<Spelling> {
-        let separator = match separator.unwrap_or(",").as_bytes() {
-            b"tab" => b'\t',
-            [b] if is_sign(*b) => *b,
-            _ => return None,
+        let separator = match separator {
+            Some(text) => separator_of(text)?,
+            None => b',',
         };
-        let decimal = match decimal.unwrap_or(".").as_bytes() {
-            b"." => b'.',
-            b"," => b',',
-            _ => return None,
+        let decimal = match decimal {
+            Some(text) => decimal_sign_of(text)?,
+            None => b'.',
         };
         if separator == decimal {
             return None;
         }
         Some(Spelling { separator, decimal })
+    }
+}
+
+fn separator_of(text: &str) -> Option<u8> {
+    match text.as_bytes() {
+        b"tab" => Some(b'\t'),
+        [b] if is_sign(*b) => Some(*b),
+        _ => None,
+    }
+}
+
+fn decimal_sign_of(text: &str) -> Option<u8> {
+    match text.as_bytes() {
+        b"." => Some(b'.'),
+        b"," => Some(b','),
+        _ => None,
     }
 }
 

@@ -33,7 +33,7 @@ pub struct Summary<A: Allocator = Global> {
 fn put_length<A: Allocator + Copy>(text: &mut Vec<u8, A>, file: &File<A>) -> Result<(), ToolFault> {
     let times = times_of(*text.allocator(), file)?;
     if let (Some(Some(first)), Some(Some(last))) = (times.first(), times.last()) {
-        put_millis(text, (*last as i128).saturating_sub(*first as i128))?;
+        put_millis(text, *last as i128 - *first as i128)?;
     }
     end_cell(text)?;
     Ok(())
@@ -130,7 +130,7 @@ pub fn fault_summary<A: Allocator + Copy>(
 pub fn sort_summaries<A: Allocator + Copy>(
     records: &mut Vec<Summary<A>, A>,
 ) -> Result<(), ToolFault> {
-    records.sort_by_key(|record| (record.trigger.is_none(), record.trigger.unwrap_or(0)))?;
+    records.sort_by_key(|record| (record.trigger.is_none(), record.trigger))?;
     Ok(())
 }
 
@@ -166,15 +166,14 @@ fn put_faults<A: Allocator>(
     out: &mut Vec<u8, A>,
     records: &[Summary<A>],
 ) -> Result<(), AllocError> {
-    let mut faulty = 0u64;
     for record in records {
         if record.trigger.is_none() {
-            faulty = faulty.saturating_add(1);
             out.extend_from_slice(&record.text)?;
         }
     }
     put_count(out, records.len() as u64, " pair, ", " pairs, ")?;
-    put_number(out, faulty)?;
+    let faulty = records.iter().filter(|record| record.trigger.is_none());
+    put_number(out, faulty.count() as u64)?;
     put(out, " with errors\n")
 }
 

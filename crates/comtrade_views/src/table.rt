@@ -80,81 +80,59 @@ fn widen<A: Allocator>(
 /// only its own row.
 const WIDEST: usize = 64;
 
-/// The position of a byte: its column, and the number of characters of the cell before it.
-#[derive(Clone, Copy)]
-struct Spot {
-    column: usize,
-    width: usize,
+/// The number of characters of a cell: the bytes of UTF-8 that begin one.
+fn width_of(cell: &[u8]) -> usize {
+    let begins = cell.iter().filter(|b| !(0x80..=0xBF).contains(*b));
+    begins.count()
 }
 
-/// The start of a row.
-const BEGIN: Spot = Spot {
-    column: 0,
-    width: 0,
-};
-
-/// The position after a byte.
-fn after(spot: Spot, b: u8) -> Spot {
-    match b {
-        CELL => Spot {
-            column: spot.column.saturating_add(1),
-            width: 0,
-        },
-        b'\n' => BEGIN,
-        // (a byte within a character of UTF-8)
-        0x80..=0xBF => spot,
-        _ => Spot {
-            column: spot.column,
-            width: spot.width.saturating_add(1),
-        },
+/// The cells of a row, without its end.
+fn row_of(line: &[u8]) -> &[u8] {
+    match line {
+        [row @ .., b'\n'] => row,
+        _ => line,
     }
 }
 
 /// The width of each column: that of its widest cell.
 fn widths_of<A: Allocator>(alloc: A, table: &[u8]) -> Result<Vec<usize, A>, AllocError> {
     let mut widths = Vec::new(alloc);
-    let mut spot = BEGIN;
-    for b in table {
-        if *b == CELL {
-            widen(&mut widths, spot.column, spot.width.min(WIDEST))?;
+    for line in table.split_inclusive(|b| *b == b'\n') {
+        for (column, cell) in row_of(line).split(|b| *b == CELL).enumerate() {
+            widen(&mut widths, column, width_of(cell).min(WIDEST))?;
         }
-        spot = after(spot, *b);
     }
     Ok(widths)
 }
 
-/// The number of blanks before the next character after a byte, given the number before this one.
-fn blanks_after(widths: &[usize], spot: Spot, blanks: usize, b: u8) -> usize {
-    if b == b'\n' {
-        return 2;
-    }
-    if b != CELL {
-        return 0;
-    }
-    let wanted = widths.get(spot.column).copied().unwrap_or(0);
-    blanks.saturating_add(wanted.saturating_sub(spot.width).saturating_add(2))
-}
-
-/// A table with columns of these widths, padded with blanks, with none at the end of a line.
-fn put_columns<A: Allocator>(
-    out: &mut Vec<u8, A>,
-    table: &[u8],
-    widths: &[usize],
-) -> Result<(), AllocError> {
-    let mut spot = BEGIN;
-    let mut blanks = 2usize;
-    for b in table {
-        if *b != CELL {
-            let before = if *b == b'\n' { 0 } else { blanks };
-            for _ in 0..before {
-                out.extend_from_slice(b" ")?;
-            }
-            out.extend_from_slice(&[*b])?;
-        }
-        blanks = blanks_after(widths, spot, blanks, *b);
-        spot = after(spot, *b);
+/// Adds blanks.
+fn put_blanks<A: Allocator>(out: &mut Vec<u8, A>, count: usize) -> Result<(), AllocError> {
+    for _ in 0..count {
+        out.extend_from_slice(b" ")?;
     }
     Ok(())
+}
+
+/// A row with columns of these widths, without the blanks at its end.
+fn put_row<A: Allocator>(
+    out: &mut Vec<u8, A>,
+    row: &[u8],
+    widths: &[usize],
+) -> Result<(), AllocError> {
+    let mut end = out.len();
+    for (cell, wanted) in row.split(|b| *b == CELL).zip(widths.iter()) {
+        put_blanks(out, 2)?;
+        out.extend_from_slice(cell)?;
+        if !cell.is_empty() {
+            end = out.len();
+        }
+        let width = width_of(cell);
+        if width < *wanted {
+            put_blanks(out, *wanted - width)?;
+        }
+    }
+    out.truncate(end);
+    end_row(out)
 }
 
 /// A table with aligned columns, two blanks between them and none at the end of a line.
@@ -163,5 +141,8 @@ pub(crate) fn put_table<A: Allocator + Copy>(
     table: &[u8],
 ) -> Result<(), AllocError> {
     let widths = widths_of(*out.allocator(), table)?;
-    put_columns(out, table, &widths)
+    for line in table.split_inclusive(|b| *b == b'\n') {
+        put_row(out, row_of(line), &widths)?;
+    }
+    Ok(())
 }

@@ -56,7 +56,7 @@ pub fn times_since_trigger<A: Allocator + Copy>(
     let mut times = times_of(alloc, file)?;
     for time in times.iter_mut() {
         if let Some(nanos) = *time {
-            *time = i64::try_from((nanos as i128).saturating_sub(trigger)).ok();
+            *time = i64::try_from(nanos as i128 - trigger).ok();
         }
     }
     Ok(times)

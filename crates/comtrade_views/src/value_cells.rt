@@ -23,7 +23,8 @@ pub(crate) fn value_cells_of<A: Allocator + Copy>(
     for channel in channels {
         scales.push(aligned_scale_of(channel.a, channel.b))?;
     }
-    let size = channels.len().saturating_mul(LONGEST_VALUE + 1);
+    let size = channels.len().checked_mul(LONGEST_VALUE + 1);
+    let size = size.ok_or(AllocError)?;
     let cells = vec![in alloc; 0u8; size]?;
     Ok(ValueCells {
         scales,

@@ -2,7 +2,7 @@
 
 ghost use Rattle.std.specs.Prelude.{◌≡◌, ◌<◌, ◌+◌, ◌⊎◌, ◌^◌};
 
-use std::num::{nearest_i64_to_f64, nearest_u64_to_f64};
+use std::num::nearest_u64_to_f64;
 
 /// The differences of two channels: their number, the one farthest from 0, its time, and the sum of
 /// their squares.
@@ -30,14 +30,15 @@ impl Differences {
     /// Adds the difference at a time. Of differences of the same size, the first one stays the
     /// greatest.
     pub fn with(self, time: i64, difference: f64) -> Differences
-        ensures count { self.count + 1 < 2 ^ 64 → result.count ≡ self.count + 1 }
+        requires { self.count + 1 < 2 ^ 64 }
+        ensures count { result.count ≡ self.count + 1 }
         ensures first { self.count ≡ 0 → (result.greatest ≡ difference) × (result.time ≡ time) }
         ensures one { ((result.greatest ≡ self.greatest) × (result.time ≡ self.time))
             ⊎ ((result.greatest ≡ difference) × (result.time ≡ time)) }
     {
         let is_greatest = self.count == 0 || self.greatest.abs() < difference.abs();
         Differences {
-            count: self.count.saturating_add(1),
+            count: self.count + 1,
             greatest: if is_greatest {
                 difference
             } else {
@@ -57,16 +58,7 @@ impl Differences {
     }
 }
 
-/// A value at a time.
-#[derive(Clone, Copy, Debug)]
-pub struct Point {
-    pub time: i64,
-    pub value: f64,
-}
-
-/// The value at a time on the straight line through two points.
-pub fn between(from: Point, to: Point, time: i64) -> f64 {
-    let span = nearest_i64_to_f64(to.time.saturating_sub(from.time));
-    let part = nearest_i64_to_f64(time.saturating_sub(from.time));
-    from.value + (to.value - from.value) * (part / span)
+/// The value on a straight line between two values, this part of the distance after the first.
+pub fn between(from: f64, to: f64, part: u64, distance: u64) -> f64 {
+    from + (to - from) * (nearest_u64_to_f64(part) / nearest_u64_to_f64(distance))
 }

@@ -32,7 +32,7 @@ fn look_over<A: Allocator>(
     length: Length,
 ) {
     for (row, now) in rows.iter().enumerate() {
-        let is_begun = begin <= row && row.abs_diff(begin) < length.first();
+        let is_begun = begin <= row && row.abs_diff(begin) <= length.last_within();
         for current in currents.iter_mut() {
             current.look(now, is_begun);
         }
@@ -72,8 +72,8 @@ fn follow_over<A: Allocator>(
         return Ok(());
     };
     restart_all(currents);
-    for (row, now) in rows.iter().enumerate() {
-        let place = Place::new(rows, row, now, length, span.from);
+    for (index, (row, now)) in (span.from..span.to).zip(rows.iter().enumerate()) {
+        let place = Place::new(rows, row, now, length, index);
         follow_row(currents, &place, length)?;
     }
     Ok(())

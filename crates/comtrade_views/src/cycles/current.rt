@@ -49,12 +49,12 @@ impl<'a, A: Allocator> Place<'a, A> {
         row: usize,
         now: &'a Row<A>,
         length: Length,
-        begin: usize,
+        index: usize,
     ) -> Place<'a, A> {
         let (before, twice) = (length.back(row), length.twice_back(row));
         Place {
             row,
-            index: begin.saturating_add(row),
+            index,
             now,
             near: before.and_then(|near| rows.get(near)),
             far: before.and_then(|near| rows.get(near.checked_sub(1)?)),
@@ -85,7 +85,7 @@ pub(crate) struct Current<A: Allocator> {
     /// The departure after which it does not keep to a waveform yet, with mean squares in place of
     /// rms values, and the number of rows since it last departed or was above.
     course: Option<Course>,
-    calm: usize,
+    calm: u128,
     courses: Vec<Course, A>,
 }
 
@@ -111,6 +111,7 @@ impl<A: Allocator> Current<A> {
     /// Records its magnitude in a row.
     pub(crate) fn look(&mut self, row: &Row<A>, is_begun: bool) {
         let Some(value) = value_in(row, self.place, self.scale) else {
+            // (there are fewer rows than a number of 64 bits)
             self.missing = self.missing.saturating_add(1);
             return;
         };
@@ -156,11 +157,11 @@ impl<A: Allocator> Current<A> {
         if let Some(value) = near {
             self.sum -= value * value;
         }
-        if place.row.saturating_add(1) < length.first() {
+        if place.row < length.last_within() {
             return None;
         }
         match self.hole {
-            Some(hole) if place.row.abs_diff(hole) < length.first() => None,
+            Some(hole) if place.row.abs_diff(hole) <= length.last_within() => None,
             _ => length.mean_square(self.sum, near),
         }
     }
@@ -261,11 +262,11 @@ impl<A: Allocator> Current<A> {
             self.calm = 0;
             return Ok(());
         }
-        self.calm = self.calm.saturating_add(1);
-        if length.first() < self.calm {
+        if (length.last_within() as u128) < self.calm {
             self.before = Some(square);
             return self.close();
         }
+        self.calm += 1;
         Ok(())
     }
 

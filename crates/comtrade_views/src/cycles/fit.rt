@@ -1,5 +1,7 @@
 //! Measures the channels of a file over a window's whole cycles.
 
+ghost use Rattle.std.specs.Prelude.{◌<◌, ◌^◌};
+
 use crate::cycles::fault::MeasureFault;
 use crate::cycles::matrix::{Matrix, at, zeros};
 use crate::cycles::phasor::Phasor;
@@ -78,8 +80,8 @@ fn totals_of<A: Allocator + Copy>(
         peak_row: window.from,
         step: scale.a.abs(),
     };
-    let mut turning = Turning::new(window.cycle);
-    for (i, row) in rows.iter().enumerate() {
+    let mut turning = Turning::new(window);
+    for (index, row) in (window.from..window.to).zip(rows.iter()) {
         let Some(value) = value_in(row, channel, scale) else {
             return Ok(None);
         };
@@ -87,7 +89,7 @@ fn totals_of<A: Allocator + Copy>(
         totals.squares += value * value;
         if totals.peak.abs() < value.abs() {
             totals.peak = value;
-            totals.peak_row = window.from.saturating_add(i);
+            totals.peak_row = index;
         }
         turning = turning.next();
     }
@@ -95,11 +97,14 @@ fn totals_of<A: Allocator + Copy>(
 }
 
 /// The phasor of an order, from the solved equations.
-fn phasor_at(parts: &[f64], order: usize) -> Phasor {
+fn phasor_at(parts: &[f64], order: usize) -> Phasor
+    requires some { 0 < order }
+    requires few { order < 2 ^ 63 }
+{
     let place = place_of(order);
     Phasor {
         re: at(parts, place) / SQRT_2,
-        im: -at(parts, place.saturating_add(1)) / SQRT_2,
+        im: -at(parts, place + 1) / SQRT_2,
     }
 }
 
@@ -121,8 +126,8 @@ fn measured_of<A: Allocator + Copy>(
     let residual = rest.max(0.0) / nearest_usize_to_f64(rows);
     let mut square = dc * dc + residual;
     let mut orders = Vec::new(alloc);
-    for order in 1..=parts.len() / 2 {
-        let size = phasor_at(&parts, order).magnitude();
+    for below in 0..parts.len() / 2 {
+        let size = phasor_at(&parts, below + 1).magnitude();
         square += size * size;
         orders.push(size)?;
     }

@@ -30,12 +30,12 @@ impl Length {
         })
     }
 
-    /// The first row that has a whole cycle before it.
-    pub(crate) fn first(self) -> usize {
-        if 0.0 < self.part {
-            self.rows.saturating_add(1)
-        } else {
+    /// The last row that has no whole cycle before it.
+    pub(crate) fn last_within(self) -> usize {
+        if 0.0 < self.part || self.rows == 0 {
             self.rows
+        } else {
+            self.rows - 1
         }
     }
 

@@ -23,27 +23,34 @@ pub(crate) fn zeros<A: Allocator>(alloc: A, count: usize) -> Result<Vec<f64, A>,
 #[derive(Drop)]
 pub(crate) struct Matrix<A: Allocator> {
     pub(crate) side: usize,
-    cells: Vec<f64, A>,
+    rows: Vec<Vec<f64, A>, A>,
 }
 
 impl<A: Allocator> Matrix<A> {
     /// A matrix of zeros.
-    pub(crate) fn new(alloc: A, side: usize) -> Result<Matrix<A>, AllocError> {
-        let cells = zeros(alloc, side.saturating_mul(side))?;
-        Ok(Matrix { side, cells })
+    pub(crate) fn new(alloc: A, side: usize) -> Result<Matrix<A>, AllocError>
+    where
+        A: Copy,
+    {
+        let mut rows = Vec::with_capacity(alloc, side)?;
+        for _ in 0..side {
+            rows.push(zeros(alloc, side)?)?;
+        }
+        Ok(Matrix { side, rows })
     }
 
-    fn place(&self, row: usize, column: usize) -> usize {
-        row.saturating_mul(self.side).saturating_add(column)
-    }
-
+    /// A cell; 0 outside the matrix.
     fn cell(&self, row: usize, column: usize) -> f64 {
-        at(&self.cells, self.place(row, column))
+        match self.rows.get(row) {
+            Some(cells) => at(cells, column),
+            None => 0.0,
+        }
     }
 
     pub(crate) fn put(&mut self, row: usize, column: usize, number: f64) {
-        let place = self.place(row, column);
-        replace(&mut self.cells, place, number);
+        if let Some(cells) = self.rows.get_mut(row) {
+            replace(cells, column, number);
+        }
     }
 
     /// A cell minus the products of both rows in the columns before it.

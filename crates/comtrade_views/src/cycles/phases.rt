@@ -26,6 +26,14 @@ pub struct Components {
     pub zero: Phasor,
 }
 
+impl Components {
+    /// The greatest of the three rms values.
+    pub(crate) fn greatest(self) -> f64 {
+        let unbalanced = self.negative.magnitude().max(self.zero.magnitude());
+        self.positive.magnitude().max(unbalanced)
+    }
+}
+
 /// The channels that form three phases, by the rule of `sequences_in`.
 pub fn threes_of<A: Allocator + Copy>(
     alloc: A,

@@ -16,14 +16,19 @@ use std::num::nearest_u64_to_f64;
 pub(crate) struct Turning {
     cycle: Cycle,
     at: u64,
+    ghost within: { at < cycle.rows },
+    ghost slow: { cycle.cycles ≤ cycle.rows },
 }
 
 impl Turning {
-    pub(crate) fn new(cycle: Cycle) -> Turning
-        ensures cycle { result.cycle ≡ cycle }
+    pub(crate) fn new(window: Window) -> Turning
+        ensures cycle { result.cycle ≡ window.cycle }
         ensures start { result.at ≡ 0 }
     {
-        Turning { cycle, at: 0 }
+        Turning {
+            cycle: window.cycle,
+            at: 0,
+        }
     }
 
     /// The phasor of the row's angle.
@@ -35,9 +40,9 @@ impl Turning {
     /// The angle of the next row.
     pub(crate) fn next(self) -> Turning
         ensures cycle { result.cycle ≡ self.cycle }
-        ensures angle { self.at < self.cycle.rows → self.cycle.cycles ≤ self.cycle.rows → result.at ≡ next_angle self.cycle.cycles self.cycle.rows self.at }
+        ensures angle { result.at ≡ next_angle self.cycle.cycles self.cycle.rows self.at }
     {
-        let left = self.cycle.rows.saturating_sub(self.at);
+        let left = self.cycle.rows - self.at;
         let at = if self.cycle.cycles < left {
             self.at + self.cycle.cycles
         } else {
@@ -59,27 +64,31 @@ fn add_to(list: &mut [f64], place: usize, number: f64) {
 /// The index of the sum weighted by the cosine of an order; that by the sine follows it. Index 0
 /// has the plain sum.
 pub(crate) fn place_of(order: usize) -> usize
-    ensures { order < 2 ^ 63 → result ≡ 2 * order - 1 }
+    requires some { 0 < order }
+    requires few { order < 2 ^ 63 }
+    ensures { result ≡ 2 * order - 1 }
 {
-    order.saturating_mul(2).saturating_sub(1)
+    2 * order - 1
 }
 
 /// Adds a row's value, and the value times the cosine and the sine of each order.
 pub(crate) fn add_row(sums: &mut [f64], turn: Phasor, value: f64) {
     add_to(sums, 0, value);
     let mut power = turn;
-    for order in 1..=sums.len() / 2 {
-        let place = place_of(order);
+    for below in 0..sums.len() / 2 {
+        let place = place_of(below + 1);
         add_to(sums, place, value * power.re);
-        add_to(sums, place.saturating_add(1), value * power.im);
+        add_to(sums, place + 1, value * power.im);
         power = power.times(turn);
     }
 }
 
 /// The sums of this many orders over a window's rows, each with the value 1.
-fn ones<A: Allocator>(alloc: A, window: Window, orders: usize) -> Result<Vec<f64, A>, AllocError> {
-    let mut sums = zeros(alloc, orders.saturating_mul(2).saturating_add(1))?;
-    let mut turning = Turning::new(window.cycle);
+fn ones<A: Allocator>(alloc: A, window: Window, orders: usize) -> Result<Vec<f64, A>, AllocError>
+    requires { orders ≤ 50 }
+{
+    let mut sums = zeros(alloc, 2 * orders + 1)?;
+    let mut turning = Turning::new(window);
     for _ in window.from..window.to {
         add_row(&mut sums, turning.phasor(), 1.0);
         turning = turning.next();
@@ -88,7 +97,10 @@ fn ones<A: Allocator>(alloc: A, window: Window, orders: usize) -> Result<Vec<f64
 }
 
 /// The sum of the cosines of an order, and that of the sines; the order may be negative.
-fn pair_at(sums: &[f64], order: usize, less: usize) -> Phasor {
+fn pair_at(sums: &[f64], order: usize, less: usize) -> Phasor
+    requires first { order ≤ 50 }
+    requires second { less ≤ 50 }
+{
     let size = order.abs_diff(less);
     if size == 0 {
         return Phasor {
@@ -97,7 +109,7 @@ fn pair_at(sums: &[f64], order: usize, less: usize) -> Phasor {
         };
     }
     let place = place_of(size);
-    let sine = at(sums, place.saturating_add(1));
+    let sine = at(sums, place + 1);
     Phasor {
         re: at(sums, place),
         im: if order < less { -sine } else { sine },
@@ -106,11 +118,16 @@ fn pair_at(sums: &[f64], order: usize, less: usize) -> Phasor {
 
 /// The products of two orders' cosines and sines: cos j cos k = (cos (j-k) + cos (j+k)) / 2, and so
 /// on.
-fn put_products<A: Allocator>(matrix: &mut Matrix<A>, sums: &[f64], j: usize, k: usize) {
+fn put_products<A: Allocator>(matrix: &mut Matrix<A>, sums: &[f64], j: usize, k: usize)
+    requires some_j { 0 < j }
+    requires few_j { j ≤ 25 }
+    requires some_k { 0 < k }
+    requires few_k { k ≤ 25 }
+{
     let less = pair_at(sums, j, k);
-    let more = pair_at(sums, j.saturating_add(k), 0);
+    let more = pair_at(sums, j + k, 0);
     let (row, column) = (place_of(j), place_of(k));
-    let (below, right) = (row.saturating_add(1), column.saturating_add(1));
+    let (below, right) = (row + 1, column + 1);
     matrix.put(row, column, (less.re + more.re) / 2.0);
     matrix.put(below, right, (less.re - more.re) / 2.0);
     matrix.put(below, column, (more.im + less.im) / 2.0);
@@ -122,16 +139,19 @@ pub(crate) fn equations<A: Allocator + Copy>(
     alloc: A,
     window: Window,
     orders: usize,
-) -> Result<Matrix<A>, AllocError> {
-    let sums = ones(alloc, window, orders.saturating_mul(2))?;
-    let mut matrix = Matrix::new(alloc, orders.saturating_mul(2).saturating_add(1))?;
+) -> Result<Matrix<A>, AllocError>
+    requires { orders ≤ 25 }
+{
+    let sums = ones(alloc, window, 2 * orders)?;
+    let mut matrix = Matrix::new(alloc, 2 * orders + 1)?;
     matrix.put(0, 0, at(&sums, 0));
-    for j in 1..=orders {
+    for i in 0..orders {
+        let j = i + 1;
         let first = pair_at(&sums, j, 0);
         matrix.put(place_of(j), 0, first.re);
-        matrix.put(place_of(j).saturating_add(1), 0, first.im);
-        for k in 1..=j {
-            put_products(&mut matrix, &sums, j, k);
+        matrix.put(place_of(j) + 1, 0, first.im);
+        for h in 0..j {
+            put_products(&mut matrix, &sums, j, h + 1);
         }
     }
     Ok(matrix)

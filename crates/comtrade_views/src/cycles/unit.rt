@@ -42,13 +42,10 @@ fn is_ampere(word: &[u8]) -> bool {
 
 /// The letters before the first other byte, and the text after that byte.
 fn cut_word(text: &[u8]) -> (&[u8], &[u8]) {
-    let at = text
-        .iter()
-        .position(|b| !b.is_ascii_alphabetic())
-        .unwrap_or(text.len());
-    let word = text.get(..at).unwrap_or(text);
-    let rest = text.get(at.saturating_add(1)..).unwrap_or(&[]);
-    (word, rest)
+    match text.iter().position(|b| !b.is_ascii_alphabetic()) {
+        Some(at) => (&text[..at], &text[at + 1..]),
+        None => (text, &[]),
+    }
 }
 
 /// Whether each byte is a letter, or one that may stand between words.

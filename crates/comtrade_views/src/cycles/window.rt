@@ -28,8 +28,16 @@ pub struct Window {
 const HIGHEST: usize = 25;
 
 impl Window {
+    /// The last row; the first one where there are none.
+    pub fn last(self) -> usize {
+        // (the windows that are measured have rows)
+        self.to.saturating_sub(1)
+    }
+
     /// The number of orders that are measured: those below half the rows of a cycle, at most 25.
-    pub fn orders(self) -> usize {
+    pub fn orders(self) -> usize
+        ensures { result ≤ 25 }
+    {
         let rows = self.cycle.rows_in(1);
         if (2 * HIGHEST as u128) < rows {
             return HIGHEST;

@@ -33,25 +33,22 @@ fn picked_copies<T: Copy, A: Allocator>(
     Ok(Items::of(picked))
 }
 
-/// The rows with these channels only, numbered from 1, with stamps relative to the first row.
+/// The rows with these channels only, numbered from 1, with stamps relative to the first row; a
+/// stamp before that of the first row is left out.
 fn cut_rows<A: Allocator + Copy>(
     alloc: A,
     rows: &[Row<A>],
     channels: &Channels<A>,
 ) -> Result<Items<Row<A>, A>, Memory> {
-    let base = match rows.first() {
-        Some(row) => row.stamp.unwrap_or(0),
-        None => 0,
-    };
+    // (without a stamp in the first row the others stay)
+    let base = rows.first().and_then(|row| row.stamp).unwrap_or(0);
     let mut cut = Vec::with_capacity(alloc, rows.len())?;
-    let mut number = 0u64;
-    for row in rows {
-        number = number.saturating_add(1);
+    for (number, row) in (1..=u64::MAX).zip(rows.iter()) {
         let values = picked_copies(alloc, row.values.items(), &channels.analog)?;
         let bits = picked_copies(alloc, row.bits.items(), &channels.status)?;
         cut.push(Row {
             number,
-            stamp: row.stamp.map(|stamp| stamp.saturating_sub(base)),
+            stamp: row.stamp.and_then(|stamp| stamp.checked_sub(base)),
             values,
             bits,
         })?;
@@ -69,27 +66,27 @@ fn cut_rates<A: Allocator + Copy>(
     let mut cut: Vec<Rate, A> = Vec::new(alloc);
     let mut last = 0u64;
     for rate in rates {
-        let endsamp = rate.endsamp.min(to).saturating_sub(from);
-        if last < endsamp {
-            cut.push(Rate {
-                samp: rate.samp,
-                endsamp,
-            })?;
-            last = endsamp;
+        match rate.endsamp.min(to).checked_sub(from) {
+            Some(endsamp) if last < endsamp => {
+                cut.push(Rate {
+                    samp: rate.samp,
+                    endsamp,
+                })?;
+                last = endsamp;
+            }
+            _ => {}
         }
     }
     Ok(Items::of(cut))
 }
 
-/// The instant of the first of the rows, to the nearest microsecond.
-fn first_instant<A: Allocator>(file: &File<A>, from: usize) -> i64 {
-    let stamp = match file.rows.items().get(from) {
-        Some(row) => row.stamp,
-        None => None,
-    };
-    let nanos = clock_in(file).nanos(from as u64, stamp).unwrap_or(0);
-    let micros = i64::try_from(nanos.saturating_add(500) / 1000).unwrap_or(i64::MAX);
-    file.head.first.saturating_add(micros)
+/// The instant of the first of the rows, to the nearest microsecond; None where its time is not
+/// known, or no number of 64 bits.
+fn first_instant<A: Allocator>(file: &File<A>, from: usize) -> Option<i64> {
+    let row = file.rows.items().get(from)?;
+    let nanos = clock_in(file).nanos(from as u64, row.stamp)?;
+    let micros = i64::try_from(nanos.checked_add(500)? / 1000).ok()?;
+    file.head.first.checked_add(micros)
 }
 
 /// The head of the part.
@@ -108,6 +105,7 @@ fn cut_head<A: Allocator + Copy>(
     let nrates = if head.nrates == 0 {
         0
     } else {
+        // (a file has at most 999 rates)
         u32::try_from(rates.items().len()).unwrap_or(u32::MAX)
     };
     Ok(Head {
@@ -118,7 +116,8 @@ fn cut_head<A: Allocator + Copy>(
         line_freq: head.line_freq,
         nrates,
         rates,
-        first: first_instant(file, rows.from),
+        // (the instant of the whole record stands for one that is not known)
+        first: first_instant(file, rows.from).unwrap_or(head.first),
         trigger: head.trigger,
         kind: head.kind,
         timemult: head.timemult,

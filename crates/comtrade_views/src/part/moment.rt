@@ -5,7 +5,7 @@ use jiff_core::civil::{Date, DateTime, Time};
 /// A moment of a record.
 #[derive(Clone, Copy, PartialEq, Eq)]
 pub(crate) enum Moment {
-    /// The row of this number, from 1.
+    /// The row of this index, from 0.
     Row(u64),
     /// Nanoseconds since the trigger.
     SinceTrigger(i128),
@@ -13,60 +13,43 @@ pub(crate) enum Moment {
     Instant(i128),
 }
 
-/// The value of decimal digits; None without a digit.
-fn digits(text: &str) -> Option<i128> {
-    if text.is_empty() || 18 < text.len() {
+/// The value of up to 18 decimal digits.
+fn digits(text: &str) -> Option<u64> {
+    if 18 < text.len() || !text.bytes().all(|b| b.is_ascii_digit()) {
         return None;
     }
-    let mut number = 0i128;
-    for b in text.as_bytes() {
-        if !b.is_ascii_digit() {
-            return None;
-        }
-        number = number
-            .saturating_mul(10)
-            .saturating_add(b.saturating_sub(b'0') as i128);
-    }
-    Some(number)
+    text.parse::<u64>().ok()
 }
 
-/// The digits after the point, in units of 10^-count; further digits are dropped.
-fn places(text: &str, count: usize) -> Option<i128> {
-    let mut number = 0i128;
-    let mut left = count;
-    for b in text.as_bytes() {
-        if !b.is_ascii_digit() {
-            return None;
-        }
-        if 0 < left {
-            left -= 1;
-            number = number
-                .saturating_mul(10)
-                .saturating_add(b.saturating_sub(b'0') as i128);
-        }
+/// The value of the first digits after a point, as many as are asked for; zeros follow a text with
+/// fewer.
+fn places<const COUNT: usize>(text: &str) -> Option<u64> {
+    if !text.bytes().all(|b| b.is_ascii_digit()) {
+        return None;
     }
-    for _ in 0..left {
-        number = number.saturating_mul(10);
+    let mut kept = [b'0'; COUNT];
+    for (kept, b) in kept.iter_mut().zip(text.bytes()) {
+        *kept = b;
     }
-    Some(number)
+    digits(str::from_utf8(&kept).ok()?)
 }
 
-/// A decimal without an exponent, in units of 10^-count.
-fn decimal(text: &str, count: usize) -> Option<i128> {
-    let (sign, size) = match text.strip_prefix('-') {
-        Some(size) => (-1, size),
-        None => (1, text.strip_prefix('+').unwrap_or(text)),
+/// The text before a sign and the text after it; without the sign, all of it and nothing.
+fn halves(text: &str, sign: char) -> (&str, &str) {
+    text.split_once(sign).unwrap_or((text, ""))
+}
+
+/// Milliseconds as a decimal without an exponent, in nanoseconds.
+fn millis_of(text: &str) -> Option<i128> {
+    let (is_before, size) = match (text.strip_prefix('-'), text.strip_prefix('+')) {
+        (Some(size), _) => (true, size),
+        (None, Some(size)) => (false, size),
+        (None, None) => (false, text),
     };
-    let (whole, fraction) = size.split_once('.').unwrap_or((size, ""));
-    let mut units = digits(whole)?;
-    for _ in 0..count {
-        units = units.saturating_mul(10);
-    }
-    Some(
-        units
-            .saturating_add(places(fraction, count)?)
-            .saturating_mul(sign),
-    )
+    let (whole, fraction) = halves(size, '.');
+    let millis = i128::from(digits(whole)?);
+    let nanos = millis * 1_000_000 + i128::from(places::<6>(fraction)?);
+    Some(if is_before { -nanos } else { nanos })
 }
 
 /// A number of one or two digits.
@@ -77,9 +60,10 @@ fn small(text: &str) -> Option<i8> {
 /// `hh:mm:ss.fraction`, `hh:mm:ss` or `hh:mm`
 fn time_of(text: &str) -> Option<Time> {
     let (hour, rest) = text.split_once(':')?;
+    // (seconds may be left out)
     let (minute, second) = rest.split_once(':').unwrap_or((rest, "0"));
-    let (second, fraction) = second.split_once('.').unwrap_or((second, ""));
-    let nanos = i32::try_from(places(fraction, 9)?).ok()?;
+    let (second, fraction) = halves(second, '.');
+    let nanos = i32::try_from(places::<9>(fraction)?).ok()?;
     Time::new(small(hour)?, small(minute)?, small(second)?, nanos).ok()
 }
 
@@ -97,14 +81,17 @@ fn instant_of(text: &str) -> Option<i128> {
     Some(DateTime { date, time }.to_nanosecond())
 }
 
-/// The moment that a text gives: `row N`, milliseconds since the trigger, or an instant.
+/// The moment that a text gives: `row N`, from 1, milliseconds since the trigger, or an instant.
 pub(crate) fn moment_of(text: &str) -> Option<Moment> {
     let text = text.trim();
     if let Some(rest) = text.strip_prefix("row") {
-        let number = u64::try_from(digits(rest.trim())?).ok()?;
-        return Some(Moment::Row(number));
+        return Some(Moment::Row(digits(rest.trim())?.checked_sub(1)?));
     }
-    if let Some(nanos) = decimal(text.strip_suffix("ms").unwrap_or(text).trim(), 6) {
+    let size = match text.strip_suffix("ms") {
+        Some(size) => size,
+        None => text,
+    };
+    if let Some(nanos) = millis_of(size.trim()) {
         return Some(Moment::SinceTrigger(nanos));
     }
     Some(Moment::Instant(instant_of(text)?))

@@ -13,42 +13,63 @@ pub(crate) struct Channels<A: Allocator> {
 
 /// Whether a text matches a pattern in which * stands for any characters. Case is ignored.
 fn fits(name: &[u8], text: &[u8]) -> bool {
-    let mut at = 0usize;
-    let mut left = 0usize;
-    let mut star: Option<(usize, usize)> = None;
-    for _ in 0..(text.len().saturating_add(1)).saturating_mul(name.len().saturating_add(1)) {
-        if left == text.len() {
-            break;
-        }
-        if is_same(name.get(at), Some(&b'*')) {
-            star = Some((at, left));
-            at = at.saturating_add(1);
-        } else if is_same(name.get(at), text.get(left)) {
-            at = at.saturating_add(1);
-            left = left.saturating_add(1);
-        } else if let Some((begin, covered)) = star {
-            star = Some((begin, covered.saturating_add(1)));
-            at = begin.saturating_add(1);
-            left = covered.saturating_add(1);
-        } else {
-            return false;
+    let mut match_so_far = Some(Matched {
+        name,
+        text,
+        star: None,
+    });
+    // (each star is tried at each byte at most)
+    for _ in 0..=text.len() {
+        for _ in 0..=name.len() {
+            match match_so_far {
+                Some(matched) if !matched.text.is_empty() => match_so_far = matched.next(),
+                _ => break,
+            }
         }
     }
-    left == text.len() && ends_in_stars(name, at)
-}
-
-fn is_same(one: Option<&u8>, other: Option<&u8>) -> bool {
-    match (one, other) {
-        (Some(x), Some(y)) => x.eq_ignore_ascii_case(y),
-        _ => false,
+    match match_so_far {
+        Some(matched) => matched.text.is_empty() && matched.name.iter().all(|b| *b == b'*'),
+        None => false,
     }
 }
 
-/// Whether only stars are left from this index on.
-fn ends_in_stars(name: &[u8], at: usize) -> bool {
-    match name.get(at..) {
-        Some(rest) => rest.iter().all(|b| *b == b'*'),
-        None => true,
+/// What is left of a pattern and of the text; and what was left of both after the last star, which
+/// so far stands for nothing more.
+#[derive(Clone, Copy)]
+struct Matched<'a> {
+    name: &'a [u8],
+    text: &'a [u8],
+    star: Option<(&'a [u8], &'a [u8])>,
+}
+
+impl<'a> Matched<'a> {
+    /// One byte further; None where the text does not match.
+    fn next(self) -> Option<Matched<'a>> {
+        let (first, text) = self.text.split_first()?;
+        match self.name.split_first() {
+            Some((b'*', name)) => Some(Matched {
+                name,
+                text: self.text,
+                star: Some((name, self.text)),
+            }),
+            Some((b, name)) if b.eq_ignore_ascii_case(first) => Some(Matched {
+                name,
+                text,
+                star: self.star,
+            }),
+            _ => self.covered(),
+        }
+    }
+
+    /// The last star stands for one byte more.
+    fn covered(self) -> Option<Matched<'a>> {
+        let (name, text) = self.star?;
+        let (_, text) = text.split_first()?;
+        Some(Matched {
+            name,
+            text,
+            star: Some((name, text)),
+        })
     }
 }
 
@@ -149,10 +170,12 @@ pub(crate) fn channels_of<'a, A: Allocator + Copy>(
     let is_all = names.is_none();
     let mut analog = marks(alloc, head.analog.items().len(), is_all)?;
     let mut status = marks(alloc, head.status.items().len(), is_all)?;
-    for name in names.unwrap_or("").split(',') {
-        let name = name.trim();
-        if !is_all && !mark(head, &mut analog, &mut status, name) {
-            return Err(PartFault::NoChannel(name));
+    if let Some(names) = names {
+        for name in names.split(',') {
+            let name = name.trim();
+            if !mark(head, &mut analog, &mut status, name) {
+                return Err(PartFault::NoChannel(name));
+            }
         }
     }
     if is_changed {

@@ -28,11 +28,10 @@ fn side_of<'a>(part: Part<'a>) -> Result<Option<Side>, PartFault<'a>> {
     }
 }
 
-/// Converts each channel to this side.
+/// Converts each channel to this side. Refused with the number of the first one, from 1, whose
+/// ratio does not allow it.
 fn turn_all<A: Allocator>(channels: &mut [AnalogChannel<A>], side: Side) -> Result<(), u64> {
-    let mut number = 0u64;
-    for channel in channels {
-        number = number.saturating_add(1);
+    for (number, channel) in (1..=u64::MAX).zip(channels.iter_mut()) {
         if !turn(channel, side) {
             return Err(number);
         }

@@ -32,14 +32,13 @@ fn bound_of<'a, A: Allocator>(
     };
     let first = file.head.first as i128 * 1000;
     let trigger = file.head.trigger as i128 * 1000;
-    match moment_of(text) {
-        Some(Moment::Row(number)) => Ok(Bound::Index(number.saturating_sub(1))),
-        Some(Moment::SinceTrigger(nanos)) => {
-            Ok(Bound::Time(nanos.saturating_add(trigger - first)))
-        }
-        Some(Moment::Instant(nanos)) => Ok(Bound::Time(nanos.saturating_sub(first))),
-        None => Err(PartFault::Moment(text)),
-    }
+    let bound = match moment_of(text) {
+        Some(Moment::Row(index)) => Some(Bound::Index(index)),
+        Some(Moment::SinceTrigger(nanos)) => nanos.checked_add(trigger - first).map(Bound::Time),
+        Some(Moment::Instant(nanos)) => nanos.checked_sub(first).map(Bound::Time),
+        None => None,
+    };
+    bound.ok_or(PartFault::Moment(text))
 }
 
 /// Whether a row is neither before the first bound nor after the second.
@@ -69,8 +68,8 @@ fn between<A: Allocator>(
     let mut clock = clock_in(file);
     let mut found: Option<Rows> = None;
     let mut has_times = false;
-    for (i, row) in rows.iter().enumerate() {
-        let index = i as u64;
+    for i in 0..rows.len() {
+        let (row, index) = (&rows[i], i as u64);
         clock = clock.at(index);
         let time = match clock.nanos(index, row.stamp) {
             Some(nanos) => i128::try_from(nanos).ok(),
@@ -84,7 +83,7 @@ fn between<A: Allocator>(
             };
             found = Some(Rows {
                 from: first,
-                to: i.saturating_add(1),
+                to: i + 1,
             });
         }
     }

@@ -20,14 +20,15 @@ fn ratio_of(x: Exact, y: Exact, z: Exact) -> Option<Exact> {
     if z.units == 0 {
         return None;
     }
-    let mut units = x.units.saturating_mul(y.units);
-    let mut places = x.places.saturating_add(y.places).saturating_sub(z.places);
+    let product = x.times(y)?;
+    let mut units = product.units;
+    let mut places = product.places.checked_sub(z.places)?;
     for _ in 0..40 {
         if units.checked_rem(z.units)? == 0 || LONGEST < units.unsigned_abs() {
             break;
         }
-        units = units.saturating_mul(10);
-        places = places.saturating_add(1);
+        units = units.checked_mul(10)?;
+        places = places.checked_add(1)?;
     }
     let quotient = Exact {
         units: units.checked_div(z.units)?,
@@ -44,8 +45,8 @@ fn decimal_of(number: Exact) -> Option<Decimal> {
             break;
         }
         number = Exact {
-            units: number.units.saturating_mul(10),
-            places: number.places.saturating_add(1),
+            units: number.units.checked_mul(10)?,
+            places: number.places.checked_add(1)?,
         };
     }
     Decimal::new(number.units, u8::try_from(number.places).ok()?)

@@ -14,13 +14,13 @@ past_turn at cycles rows below long past =
     ap (λ (n : ℕ). n % rows) same ∙ add-mul-mod_self_right rest 1 rows ∙ mod-eq_of_lt (omega arith)
 
 pub returns-clause-angle : goal.returns-clause-angle
-returns-clause-angle c = λ below long.
+returns-clause-angle c =
     let at = c.args.self.at in
     let cycles = c.args.self.cycle.cycles in
     let rows = c.args.self.cycle.rows in
-    let left : c.saturating_sub-left.result ≡ rows - at = c.saturating_sub-left.ensures in
+    let below : at < rows = c.args.self.within in
+    let long : cycles ≤ rows = c.args.self.slow in
     elim c.if-self-left.branch [
       | then-self-left w ↦ w.at-is ∙ sym (within_turn at cycles rows (omega arith))
-      | else-self-left w ↦ w.at-is ∙ ap (λ (n : ℕ). cycles - n) left
-          ∙ sym (past_turn at cycles rows below long (omega (arith, left, w.if-self-left.false)))
+      | else-self-left w ↦ w.at-is ∙ sym (past_turn at cycles rows below long (omega (arith, w.if-self-left.false)))
     ]
