@@ -17,6 +17,8 @@ done
 cat "$folder/in.cff" | "$comtrade" csv -
 "$comtrade" check - < "$folder/in.cff"
 echo "status $?"
+"$comtrade" check --json - < "$folder/in.cff"
+echo "status $?"
 "$comtrade" csv --strict - < "$folder/in.cff"
 echo "status $?"
 "$comtrade" csv - < files/first.dat

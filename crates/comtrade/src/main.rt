@@ -27,7 +27,7 @@ use crate::extract::run_extract;
 use crate::import::run_import;
 use crate::load::{Inputs, pair_of, read_inputs, read_record};
 use crate::survey::run_survey;
-use crate::view::{Room, check, shown_file, view_file};
+use crate::view::{Room, check, shown_file, verdict_json, view_file};
 use crate::words::{invalid_argument, safe_lines, words_of};
 use crate::write::run_convert;
 use bumpalo::Bump;
@@ -207,11 +207,21 @@ pub(crate) fn note_size<R: Eprint>(rt: &R, is_watched: bool, inputs: &Inputs) {
     }
 }
 
+/// That a single file is no pair, and whether `import` reads it, as text or as JSON.
+fn single_verdict(alloc: Global, inputs: &Inputs, json: bool) -> Result<Vec<u8>, AllocError> {
+    let mut text = Vec::new(alloc);
+    put_single(alloc, &mut text, pair_of(inputs))?;
+    if json {
+        verdict_json(alloc, false, &text)
+    } else {
+        Ok(text)
+    }
+}
+
 /// Prints that a single file is no pair, and whether `import` reads it.
-fn check_single<R: Print + Eprint + AllocGlobal>(rt: &R, inputs: &Inputs) -> u8 {
-    let mut out = Vec::new(rt.alloc());
-    match put_single(rt.alloc(), &mut out, pair_of(inputs)) {
-        Ok(()) => {
+fn check_single<R: Print + Eprint + AllocGlobal>(rt: &R, inputs: &Inputs, json: bool) -> u8 {
+    match single_verdict(rt.alloc(), inputs, json) {
+        Ok(out) => {
             print_bytes(rt, &out);
             1
         }
@@ -232,7 +242,9 @@ fn run_view<R: Files + Input + Print + Eprint + AllocGlobal + Clone + Drop>(
         read_record(rt, viewed.names, viewed.part.strict)
     };
     match inputs {
-        Some(inputs) if inputs.is_single() && view == View::Check => check_single(rt, &inputs),
+        Some(inputs) if inputs.is_single() && view == View::Check => {
+            check_single(rt, &inputs, viewed.json)
+        }
         Some(inputs) => {
             note_size(rt, is_watched, &inputs);
             print_view(rt, view, viewed, &inputs)

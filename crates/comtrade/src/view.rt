@@ -115,7 +115,11 @@ pub(crate) fn check<A: Allocator + Copy, W: Write>(
 }
 
 /// A verdict as a JSON object.
-fn verdict_json(alloc: Global, is_sound: bool, text: &[u8]) -> Result<Vec<u8>, AllocError> {
+pub(crate) fn verdict_json(
+    alloc: Global,
+    is_sound: bool,
+    text: &[u8],
+) -> Result<Vec<u8>, AllocError> {
     let mut out = Vec::new(alloc);
     put(
         &mut out,
