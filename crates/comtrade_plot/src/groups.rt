@@ -195,8 +195,12 @@ pub(crate) fn hue_in<A: Allocator>(
         return hue;
     }
     let panel = panels.get(at);
-    let before = channels.iter().zip(panels.iter()).take(at);
-    let place = before
+    let (Some(earlier), Some(theirs)) = (channels.get(..at), panels.get(..at)) else {
+        return Hue::First;
+    };
+    let place = earlier
+        .iter()
+        .zip(theirs.iter())
         .filter(|(other, its)| Some(*its) == panel && phase_hue(other).is_none())
         .count();
     other_hue(place)

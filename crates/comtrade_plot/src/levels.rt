@@ -45,13 +45,13 @@ struct Step {
 /// The smallest such step of at least this size, from 1E-16 on.
 fn step_of(least: f64) -> Step {
     let mut power = 1e-16;
-    for exponent in -16i32..20 {
+    for exponent in 0..36u8 {
         for digit in [Digit::One, Digit::Two, Digit::Five] {
             let size = power * digit.size();
             if least <= size {
                 return Step {
                     digit,
-                    places: -exponent,
+                    places: 16 - i32::from(exponent),
                     size,
                 };
             }

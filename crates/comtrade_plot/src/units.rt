@@ -1,6 +1,6 @@
 //! Units, with or without a prefix, and the prefixes of large and small values.
 
-ghost use Rattle.std.specs.Prelude.{◌≤ℤ◌, pos};
+ghost use Rattle.std.specs.Prelude.{◌≤◌};
 
 use crate::sheet::Sheet;
 use std::alloc::Allocator;
@@ -88,12 +88,11 @@ fn prefix_of(exponent: i32) -> Option<&'static str> {
 }
 
 /// The greatest power of a thousand that is tried: floats have none beyond it.
-const THOUSANDS: i16 = 110;
+const THOUSANDS: u8 = 110;
 
 /// How often a size is divided by 1000 until it is below 1000, and what is left.
-fn divided(size: f64) -> (i16, f64)
-    ensures least { pos 0 ≤ℤ result.0 }
-    ensures most { result.0 ≤ℤ pos 110 }
+fn divided(size: f64) -> (u8, f64)
+    ensures { result.0 ≤ 110 }
 {
     let mut left = size;
     for times in 0..THOUSANDS {
@@ -106,9 +105,8 @@ fn divided(size: f64) -> (i16, f64)
 }
 
 /// How often a size is multiplied by 1000 until it is at least 1; never, if it is 0 or below.
-fn multiplied(size: f64) -> i16
-    ensures least { pos 0 ≤ℤ result }
-    ensures most { result ≤ℤ pos 110 }
+fn multiplied(size: f64) -> u8
+    ensures { result ≤ 110 }
 {
     let mut left = size;
     for times in 0..THOUSANDS {
@@ -123,7 +121,7 @@ fn multiplied(size: f64) -> i16
 /// The power of a thousand, as a power of ten, that brings a size between 1 and 1000.
 fn thousands(size: f64) -> i16 {
     let (times, left) = divided(size);
-    3 * (times - multiplied(left))
+    3 * (i16::from(times) - i16::from(multiplied(left)))
 }
 
 /// The power of ten by which values of a size are divided for display in a unit; none where a unit
