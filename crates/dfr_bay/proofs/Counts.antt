@@ -3,8 +3,9 @@ use Rattle.std.proofs.Common.{◌≡◌, ◌∙◌, sym, ap, ℕ, ◌+◌, ◌-�
 use Rattle.std.proofs.Math.Nat.{mod-add-div', add-mod-mod, mod-add-mod, add-mul-mod_self_right, add-mul, mod-eq_of_lt}
 use Rattle.std.proofs.lemmas.Nat.{mod_below}
 use Rattle.dfr_bay.specs.Arrivals.{missing}
+use Rattle.dfr_bay.specs.Laws.{CountLaw}
 
-pub has_count : (rate place count : ℕ) → count < rate → (place + missing rate place count) % rate ≡ count
+has_count : (rate place count : ℕ) → count < rate → (place + missing rate place count) % rate ≡ count
 has_count rate place count h =
     let below = mod_below place rate (omega arith) in
     let parts = mod-add-div' place rate in
@@ -12,6 +13,5 @@ has_count rate place count h =
     let whole : place + (count + (rate - place % rate)) ≡ count + (place / rate + 1) * rate = omega (arith, below, parts, one_more) in
     add-mod-mod place (count + (rate - place % rate)) rate ∙ ap (λ n. n % rate) whole ∙ add-mul-mod_self_right count (place / rate + 1) rate ∙ mod-eq_of_lt h
 
-pub next_count : (rate place count : ℕ) → count < rate → (place + missing rate place count + 1) % rate ≡ (count + 1) % rate
-next_count rate place count h =
-    sym (mod-add-mod (place + missing rate place count) rate 1) ∙ ap (λ n. (n + 1) % rate) (has_count rate place count h)
+pub count_law : CountLaw
+count_law rate place count h = (has_count rate place count h, mod_below (count + (rate - place % rate)) rate (omega arith))

@@ -1,2 +1,5 @@
 pub mod Counts
-pub mod OneStream
+pub mod Places
+pub mod Boards
+pub mod Bounds
+pub mod Popping

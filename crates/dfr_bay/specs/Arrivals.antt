@@ -12,11 +12,11 @@ missing_from rate due count = (count + (rate - due)) % rate
 abbrev pub missing : (rate place count : ℕ) → ℕ
 missing rate place count = missing_from rate (place % rate) count
 
--- What becomes of a frame with so many samples missing before it, after so many frames astray. A late one is so few before a whole second;
--- if it is just before, it is the newest once more.
-abbrev pub by_missing : Settings → (strays missing : ℕ) → Arrival
-by_missing s strays missing =
-    if nat_le s.rate (missing + s.late) then (if missing + 1 == s.rate then Repeated else Late)
+-- What becomes of a frame with so many samples missing before it, after so many frames astray. A late one is so few samples before a whole
+-- second; if it has the count of the newest sample, it is that one once more.
+abbrev pub by_missing : Settings → (is_newest : Bool) (strays missing : ℕ) → Arrival
+by_missing s is_newest strays missing =
+    if nat_le s.rate (missing + s.late) then (if is_newest then Repeated else Late)
     else if nat_le missing s.reach then Taken missing
     else if nat_le s.confirm (strays + 1) then Restarted missing
     else Astray

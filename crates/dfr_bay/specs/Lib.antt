@@ -1,3 +1,6 @@
 pub mod Settings
 pub mod Arrivals
-pub mod Streams
+pub mod Readings
+pub mod Lines
+pub mod Waiting
+pub mod Laws

@@ -24,6 +24,28 @@ pub enum Arrival {
     Invalid,
 }
 
+impl Arrival {
+    ghost use Rattle.std.specs.Prelude.{◌≡◌};
+    ghost use Rattle.dfr_bay.specs.Arrivals.{lost_before, is_taken};
+
+    /// How many samples are lost before that of the frame, if it is taken; else 0.
+    pub fn lost(self) -> u32
+        ensures { result ≡ lost_before self }
+    {
+        match self {
+            Arrival::Taken(lost) | Arrival::Restarted(lost) => lost,
+            Arrival::Repeated | Arrival::Late | Arrival::Astray | Arrival::Invalid => 0,
+        }
+    }
+
+    /// Whether the sample of the frame is taken.
+    pub fn is_taken(self) -> bool
+        ensures { result ≡ is_taken self }
+    {
+        matches!(self, Arrival::Taken(_) | Arrival::Restarted(_))
+    }
+}
+
 /// How many samples are missing from the count that is due.
 pub(crate) fn missing_from(rate: u32, due: u32, count: u32) -> u32
     requires due { due < rate }
@@ -36,14 +58,15 @@ pub(crate) fn missing_from(rate: u32, due: u32, count: u32) -> u32
 }
 
 /// What becomes of a frame with so many samples missing before it.
-pub(crate) fn by_missing(settings: &Settings, strays: u32, missing: u32) -> Arrival
+pub(crate) fn by_missing(settings: &Settings, is_newest: bool, strays: u32, missing: u32) -> Arrival
     requires fits { Fits settings.now }
     requires missing { missing < settings.now.rate }
-    ensures value { result ≡ spec.by_missing settings.now strays missing }
+    ensures value { result ≡ spec.by_missing settings.now is_newest strays missing }
     ensures few { spec.is_astray result ≡ true → strays + 1 < 2 ^ 32 }
+    ensures short { spec.lost_before result < 65_536 }
 {
     if missing >= settings.rate - settings.late {
-        if missing + 1 == settings.rate {
+        if is_newest {
             Arrival::Repeated
         } else {
             Arrival::Late

@@ -2,9 +2,14 @@
 #![tactic(auto)]
 
 mod arrival;
+mod bay;
+mod channel;
+mod laws;
+mod queues;
 mod settings;
-mod stream;
 
 pub use arrival::Arrival;
+pub use bay::Bay;
+pub use channel::{Channel, Lost, OutOfRange};
+pub use laws::sample_has_its_count;
 pub use settings::{Settings, SettingsFault};
-pub use stream::Stream;
