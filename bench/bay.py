@@ -1,6 +1,7 @@
 #!/usr/bin/env python3
 """Frames of several streams, in random histories: what becomes of each, and the scans, by a model over
-whole lists, and by `crates/bay_scans`. Usage: bench/bay.py PROGRAM [HISTORIES [SEED]]
+whole lists, and by `crates/bay_scans`. Usage: bench/bay.py PROGRAM [HISTORIES [SEED]]; or bench/bay.py print, which prints
+what the program must print of the input, as the model has it.
 
 The model numbers samples by absolute places: the first frame is at the place of its sample count, and
 place p has the count p modulo the rate. It knows, for each stream, the places of its samples; the scans
@@ -101,8 +102,30 @@ def history(rng):
     return (rate, late, reach, confirm, limit, streams), frames
 
 
+def words(kind, lost):
+    return f'{kind}({lost})' if kind in ('Taken', 'Restarted') else kind
+
+
+def printed(lines):
+    """What the program must print."""
+    model, shown = None, 0
+    for line in lines:
+        numbers = [int(word) for word in line.split()]
+        if len(numbers) == 6:
+            model, shown = Model(*numbers), 0
+            continue
+        print(words(*model.frame(*numbers)))
+        scans = model.scans()
+        for scan in scans[shown:]:
+            print(' ' + ' '.join('-' if it is None else str(it) for it in scan))
+        shown = len(scans)
+
+
 def main():
     program = sys.argv[1]
+    if program == 'print':
+        printed(sys.stdin)
+        return 0
     histories = int(sys.argv[2]) if len(sys.argv) > 2 else 1000
     rng = random.Random(int(sys.argv[3]) if len(sys.argv) > 3 else 1)
     runs = [history(rng) for _ in range(histories)]
@@ -113,7 +136,7 @@ def main():
         model, got = Model(*settings), []
         for frame in frames:
             kind, lost = model.frame(*frame)
-            want = f'{kind}({lost})' if kind in ('Taken', 'Restarted') else kind
+            want = words(kind, lost)
             seen[kind] = seen.get(kind, 0) + 1
             seen['lost'] = seen.get('lost', 0) + lost
             wrong += told[at] != want

@@ -3,3 +3,4 @@ pub mod Places
 pub mod Boards
 pub mod Bounds
 pub mod Popping
+pub mod Beginning

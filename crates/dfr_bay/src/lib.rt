@@ -5,6 +5,7 @@ mod arrival;
 mod bay;
 mod channel;
 mod laws;
+mod names;
 mod queues;
 mod settings;
 
@@ -12,4 +13,5 @@ pub use arrival::Arrival;
 pub use bay::Bay;
 pub use channel::{Channel, Lost, OutOfRange};
 pub use laws::sample_has_its_count;
+pub use names::{has_source, has_sv_id};
 pub use settings::{Settings, SettingsFault};

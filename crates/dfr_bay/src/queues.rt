@@ -22,7 +22,8 @@ pub(crate) fn empty_queues<T: Drop, A: Allocator + Copy>(
 {
     let mut queues = Vec::with_capacity(alloc, streams)?;
     for _i in 0..streams {
-        queues.push(HeapCircularBuffer::with_capacity(alloc, limit + 1)?)?;
+        let queue = HeapCircularBuffer::with_capacity(alloc, limit + 1)?;
+        queues.push(queue)?;
     }
     Ok(queues)
 }
