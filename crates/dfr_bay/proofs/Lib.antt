@@ -4,3 +4,4 @@ pub mod Boards
 pub mod Bounds
 pub mod Popping
 pub mod Beginning
+pub mod Complete

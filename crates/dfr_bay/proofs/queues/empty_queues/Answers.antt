@@ -1,4 +1,3 @@
-use Rattle.std.proofs.Common.{rules}
 use Rattle.dfr_bay.proofs.Beginning.{one_more}
 use Rattle.dfr_bay.proofs.queues.empty_queues.Goals as goal
 

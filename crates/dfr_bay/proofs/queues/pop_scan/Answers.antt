@@ -1,4 +1,4 @@
-use Rattle.std.proofs.Common.{◌≡◌, ◌∙◌, ◌<◌, length, arith}
+use Rattle.std.proofs.Common.{◌∙◌, ◌<◌, length, arith}
 use Rattle.std.proofs.lemmas.List.{length-set}
 use Rattle.dfr_bay.proofs.Popping.{queues_more, heads_more}
 use Rattle.dfr_bay.proofs.queues.pop_scan.Goals as goal
