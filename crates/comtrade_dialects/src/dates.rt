@@ -37,6 +37,8 @@ pub(crate) struct Clock {
     pub has_comma: bool,
     /// A colon precedes its decimal places.
     pub has_colon: bool,
+    /// It has a blank, as where one stands for a leading zero.
+    pub has_blank: bool,
 }
 
 /// A whole number of at most nine digits; it may have blanks around it.
@@ -63,12 +65,16 @@ fn month_of(text: &[u8]) -> Option<u32> {
     None
 }
 
-/// The full year of a year of two digits: 70 to 99 are in the 20th century.
-fn full_year(year: u32, digits: usize) -> u32 {
-    if digits != 2 || 99 < year {
-        return year;
+/// The year of two digits (70 to 99 are in the 20th century) or of four; 0 if all digits are 0.
+fn year_of(digits: &[u8]) -> Option<u32> {
+    let year = small(digits)?;
+    match digits.len() {
+        2 if year < 70 => Some(year + 2000),
+        2 if year < 100 => Some(year + 1900),
+        4 => Some(year),
+        _ if year == 0 => Some(0),
+        _ => None,
     }
-    if year < 70 { year + 2000 } else { year + 1900 }
 }
 
 /// The parts of a date.
@@ -77,12 +83,12 @@ pub(crate) fn civil_of(text: &[u8]) -> Option<Civil> {
     let (a, rest) = around_any(text, marks)?;
     let (b, c) = around_any(trim(rest), marks)?;
     let c = trim(c);
-    let is_slashed = has_only(text, b"0123456789/ ") && text.contains(&b'/');
+    let is_slashed = has_only(text, b"0123456789/") && text.contains(&b'/');
     if let Some(month) = month_of(b) {
         return Some(Civil {
             first: small(a)?,
             second: month,
-            year: full_year(small(c)?, c.len()),
+            year: year_of(c)?,
             is_fixed: true,
             has_short_year: c.len() == 2,
             is_other: true,
@@ -101,7 +107,7 @@ pub(crate) fn civil_of(text: &[u8]) -> Option<Civil> {
     Some(Civil {
         first: small(a)?,
         second: small(b)?,
-        year: full_year(small(c)?, c.len()),
+        year: year_of(c)?,
         is_fixed: false,
         has_short_year: c.len() == 2,
         is_other: !is_slashed,
@@ -194,6 +200,7 @@ pub(crate) fn clock_of(text: &[u8]) -> Option<Clock> {
         is_odd: has_point && digits.is_empty(),
         has_comma: rest.contains(&b','),
         has_colon: rest.contains(&b':'),
+        has_blank: text.contains(&b' '),
     })
 }
 

@@ -108,14 +108,21 @@ impl Num {
         let Some(bits) = size.checked_shl(size.leading_zeros()) else {
             return 0; // (0 alone has 64 leading zeros)
         };
-        let twos = i128::from(self.twos() + 10_000);
-        let place = twos * BITS + i128::from(bits);
+        let place = place_above(self.twos() + 10_000, bits);
         if self.mant < 0 { -place } else { place }
     }
 }
 
 /// 2^64, above all magnitudes of 64 bits.
 const BITS: i128 = 18_446_744_073_709_551_616;
+
+/// An exponent followed by 64 bits, as one whole number.
+fn place_above(exponent: i32, bits: u64) -> i128
+    requires { IsWithin 20000 exponent }
+    ensures { IsWithin 1000000000000000000000000 result }
+{
+    i128::from(exponent) * BITS + i128::from(bits)
+}
 
 /// The number of trailing zeros in decimal; for 0 it is very large.
 fn zeros_of(mant: i64) -> i32
@@ -125,9 +132,9 @@ fn zeros_of(mant: i64) -> i32
         return 9_999;
     }
     let mut left = mant;
-    for zeros in 0..18i32 {
+    for zeros in 0..18u8 {
         if left % 10 != 0 {
-            return zeros;
+            return i32::from(zeros);
         }
         left /= 10;
     }
@@ -139,9 +146,9 @@ fn digits_of(size: u64) -> i32
     ensures { IsWithin 20 result }
 {
     let mut left = size;
-    for digits in 0..20i32 {
+    for digits in 0..20u8 {
         if left == 0 {
-            return digits;
+            return i32::from(digits);
         }
         left /= 10;
     }

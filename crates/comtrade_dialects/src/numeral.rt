@@ -52,6 +52,16 @@ impl Digits {
         })
     }
 
+    /// The same digits; those that follow are after the point.
+    fn after_point(self) -> Digits {
+        Digits {
+            mant: self.mant,
+            ten: self.ten,
+            is_after: true,
+            has_any: self.has_any,
+        }
+    }
+
     /// The number with these digits and this exponent; None beyond 10^1,000,000,000.
     fn num(self, is_minus: bool, exponent: i32) -> Option<Num> {
         let mant = self.mant as i64;
@@ -102,9 +112,9 @@ pub(crate) fn spelled_of(text: &[u8], lets_comma: bool) -> Option<Spelled> {
     for (i, b) in body.iter().enumerate() {
         match *b {
             b'0'..=b'9' => digits = digits.with(*b - b'0')?,
-            b'.' if !digits.is_after => digits.is_after = true,
+            b'.' if !digits.is_after => digits = digits.after_point(),
             b',' if !digits.is_after && lets_comma => {
-                digits.is_after = true;
+                digits = digits.after_point();
                 has_comma = true;
             }
             b'e' | b'E' | b'd' | b'D' => {

@@ -57,6 +57,7 @@ fn tell_clock<A: Allocator + Copy>(
         (clock.is_odd, Key::FractionForm),
         (clock.has_colon, Key::FractionColon),
         (clock.has_comma, Key::DecimalComma),
+        (clock.has_blank, Key::DateForm),
     ] {
         if is_odd {
             notes.tell_text(key, Place::Cfg(line), text)?;
