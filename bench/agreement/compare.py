@@ -97,16 +97,38 @@ def with_list(listed, show, rows):
         yield told("list greatest_current", line["greatest_current"], peaks.get(said[1]))
 
 
+def gaps_of(rows):
+    """Runs of rows with missing samples: the first and the last row, and the most channels that miss one."""
+    gaps, begin = [], None
+    missing = [sum(values[i] is None for values in rows.values) for i in range(rows.count)] + [0]
+    for i, count in enumerate(missing):
+        if count and begin is None:
+            begin = i
+        if not count and begin is not None:
+            gaps.append((begin + 1, i, max(missing[begin:i])))
+            begin = None
+    return gaps
+
+
 def with_events(listed, show, rows):
-    """What `events` prints: each change of a contact, and the trigger."""
+    """What `events` prints: each change of a contact, each gap, and the trigger."""
     wanted = sorted((at, k + 1, bit) for k in range(len(rows.bits)) for at, bit in changes_of(rows, k))
-    found = []
+    found, gaps = [], []
+    by_time = dict(zip(("%.3f" % ms for ms in rows.millis), rows.instants))
     for event in listed["events"]:
         said = re.match(r"D([0-9]+) (?:.* )?([01])$", event["what"])
+        gap = re.match(r"readings of ([0-9]+) channels? missing, rows? ([0-9]+)(?: to ([0-9]+))?$", event["what"])
         if said:
             found.append((event["ms"], int(said[1]), int(said[2])))
+        elif gap:
+            gaps.append((int(gap[2]), int(gap[3] or gap[2]), int(gap[1])))
         elif event["what"].startswith("trigger") and event["instant"] != show["trigger"]:
             yield "events trigger: %r, show %r" % (event["instant"], show["trigger"])
+        its = by_time.get("%.3f" % event["ms"])
+        if (said or gap) and its and abs(micros(event["instant"]) - micros(its)) > 1:
+            yield told("events instant", event["instant"], its)
+    if sorted(gaps) != gaps_of(rows):
+        yield told("events gaps", gaps, gaps_of(rows))
     found.sort()
     if len(found) != len(wanted):
         yield told("events", len(found), len(wanted))
@@ -156,21 +178,21 @@ def with_measure(made, rows):
                 yield told("measure angle of channel %d" % n, angles[n], off)
 
 
-def with_page(page, show, rows):
-    """The data of `page`."""
-    if page.head["rows"] != rows.count:
-        yield told("page rows", page.head["rows"], rows.count)
-    for i, (one, other) in enumerate(zip(page.millis, rows.millis)):
-        if not near(one, other, 1e-12, 1e-9):
-            yield told("page time of row %d" % (i + 1), one, other)
-            break
-    for k, channel in enumerate(show["analog"]):
-        for i, (one, other) in enumerate(zip(page.values[k], rows.values[k])):
-            if not near(one, other, 1e-12, 1e-9 * abs(channel["b"])):
-                yield told("page value of %s, row %d" % (channel["id"], i + 1), one, other)
-                break
-    if page.bits != rows.bits:
-        yield told("page bits", page.bits, rows.bits)
+def with_currents(made, show, rows):
+    """What `measure` prints without a moment: rms values of the cycle before the inception and of the greatest after it."""
+    cycle = show["rates"][0]["rate"] / show["frequency"] if len(show["rates"]) == 1 and show["frequency"] else 0.5
+    numbers = [current["n"] for current in made["currents"]]
+    for current in made["currents"]:
+        values, left = rows.values[current["n"] - 1], current["left_row"]
+        if left is None or cycle != int(cycle) or None in values or numbers.count(current["n"]) > 1:
+            continue
+        if not near(current["left_ms"], rows.millis[left - 1], 0, MICRO):
+            yield told("measure left_ms of %s" % current["id"], current["left_ms"], rows.millis[left - 1])
+        ends = {end: rms(values[end - int(cycle):end]) for end in range(left - 1, rows.count + 1) if end >= cycle}
+        if not near(current["rms_before"], ends[left - 1], 1e-9):
+            yield told("measure rms_before of %s" % current["id"], current["rms_before"], ends.pop(left - 1))
+        if not near(current["rms_greatest"], max(size for end, size in ends.items() if end >= left), 1e-9):
+            yield told("measure rms_greatest of %s" % current["id"], current["rms_greatest"], max(ends.values()))
 
 
 def with_import(imported, rows, is_rounded):

@@ -1,16 +1,20 @@
 """What the commands print of a record, as values."""
 import base64
 import csv
+import functools
 import io
 import json
+import os
 import re
+import shutil
 import struct
 import subprocess
 from html import unescape
 
 
+@functools.lru_cache(maxsize=40)
 def run(program, *words):
-    """What a command prints: status, standard output, standard error."""
+    """What a command prints: status, standard output, standard error. Asked again with the same words, it isn't run again."""
     done = subprocess.run([program, *words], capture_output=True, timeout=1200)
     return done.returncode, done.stdout.decode("utf-8", "replace"), done.stderr.decode("utf-8", "replace")
 
@@ -26,8 +30,10 @@ class Rows:
         lines = list(csv.reader(io.StringIO(text)))
         self.names, rows = lines[0][3:], lines[1:]
         self.instants = [row[1] for row in rows]
-        self.millis = [number(row[2]) for row in rows]
-        self.values = [[number(row[3 + k]) for row in rows] for k in range(analog)]
+        self.ms_texts = [row[2] for row in rows]
+        self.millis = [number(text) for text in self.ms_texts]
+        self.texts = [[row[3 + k] for row in rows] for k in range(analog)]
+        self.values = [[number(text) for text in texts] for texts in self.texts]
         self.bits = [[int(row[k]) for row in rows] for k in range(3 + analog, len(lines[0]))]
         self.count = len(rows)
 
@@ -52,6 +58,12 @@ def sized(text, unit):
     raise ValueError("%r is no number of %s" % (text, unit))
 
 
+def line_through(known):
+    """The line through the outermost of some pairs (place, value)."""
+    (x1, v1), (x2, v2) = min(known), max(known)
+    return lambda x: v1 + (x - x1) * (v2 - v1) / (x2 - x1)
+
+
 class Picture:
     """The numbers of `plot`."""
 
@@ -62,7 +74,9 @@ class Picture:
         legends = re.findall(r'<text x="948" y="[0-9.]+">([^<]*?)(?: \([A-Za-z0-9]+\))?</text>\n<text [^>]*>peak [^<]*?, rms ([^<]*)<', text)
         self.rms = {unescape(name): said for name, said in legends}
         ends = re.findall(r'<text x="([0-9.]+)" y="62" text-anchor="middle">(-?[0-9.]+)</text>', text)
-        self.times = [(float(x), float(ms)) for x, ms in ends]
+        unit = re.search(r'y="62">([^<]*) since the trigger<', text)
+        scale = {"s": 1e3, "ms": 1.0, "µs": 1e-3}[unit[1]] if unit else 1.0
+        self.times = [(float(x), float(label) * scale) for x, label in ends]
         self.bars = []
         for name, drawn in re.findall(r'<text x="948" y="[0-9.]+">([^<]*)</text>\n(?:<path class="e"[^>]*/>\n)?((?:<path class="[ko]"[^>]*/>\n)*)', text):
             spans = re.findall(r"M([0-9.]+) [0-9.]+h([0-9.]+)v", drawn)
@@ -98,3 +112,27 @@ class Page:
         for k in range(len(self.head["status"])):
             raw = base64.b64decode(blocks["d%d" % k])
             self.bits.append([raw[i // 8] >> i % 8 & 1 for i in range(count)])
+
+
+class Shown:
+    """What the script of a page has and shows, run by node; some rows (from 1) in the tables."""
+
+    def __init__(self, said):
+        self.millis = [t / 1e6 for t in said["times"]]
+        self.values, self.bits, self.extremes = said["values"], said["bits"], said["extremes"]
+        self.changes, self.units, self.rows = said["changes"], said["units"], said["rows"]
+        self.at = {one["row"]: one for one in said["at"]}
+
+    @classmethod
+    def of(cls, text, folder, rows):
+        """None where node isn't here."""
+        if not shutil.which("node"):
+            return None
+        page = os.path.join(folder, "page.html")
+        with open(page, "w", encoding="utf-8") as file:
+            file.write(text)
+        script = os.path.join(os.path.dirname(os.path.abspath(__file__)), "page.js")
+        status, out, said = run("node", script, page, *map(str, rows))
+        if status != 0:
+            raise ValueError("the page's script: " + said.strip()[-300:])
+        return cls(json.loads(out))
