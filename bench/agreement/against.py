@@ -11,6 +11,9 @@ QUIET = {"revision-1991", "revision-2013", "sides-absent", "years-2-digits", "da
          "lines-2013-dropped", "kind-binary32", "kind-float32", "values-wide", "values-decimal", "values-rounded", "cff",
          "inf-dropped", "hdr-dropped", "range-form", "texts-not-ascii", "text-long", "phase-long", "unit-empty", "a-zero",
          "trigger-before-first"}
+# What import tells of texts that the views show as they are, and of what stays as it is.
+UNTOLD = {"bom", "texts-not-ascii", "text-long", "phase-long", "unit-empty", "ids-alike", "text-nul", "text-comma",
+          "trigger-before-first", "a-zero", "status-spare-bits"}
 PLAIN = re.compile(rb"[A-Za-z0-9 /_.-]*")
 
 
@@ -19,15 +22,14 @@ def keys_of(said):
     return set(re.findall(r"^(?:[^\n]*: )?([a-z]+(?:-[a-z0-9]+)+|bom|cff): ", said, re.M))
 
 
-def read_plainly(files):
-    """The records that the model may read: those of both orders of day and month, in a file of 1991."""
+def read_plainly(files, keys=frozenset()):
+    """The records that the model may read; those of both orders of day and month, in a file of 1991 or where a note tells of it."""
     found = []
     for month_first in (False, True):
         try:
-            record = model.read(files, month_first)
-            if record.head.revision != 1991 and month_first:
-                break
-            found.append(record)
+            record = model.read(files, month_first, keys)
+            if not month_first or record.head.revision == 1991 or "dates-mdy" in keys:
+                found.append(record)
         except model.NotPlain:
             pass
         except KeyError:
@@ -99,7 +101,7 @@ def with_names(record, rows):
     if len(set(wanted)) != len(wanted):
         return
     for name, found in zip(wanted, rows.names):
-        if name and PLAIN.fullmatch(name) and not name.startswith(b"-") and name.decode() != found:
+        if name and not found.endswith(" [NONE]") and PLAIN.fullmatch(name) and not name.startswith(b"-") and name.decode() != found:
             yield told("name", name, found)
 
 

@@ -5,7 +5,7 @@ import os
 import compare
 import pages
 import traces
-from against import keys_of, read_plainly, with_model, QUIET
+from against import keys_of, read_plainly, with_model, QUIET, UNTOLD
 from views import Page, Picture, Rows, Shown, as_json, run
 
 VIEWS = (["show"], ["show", "--json"], ["list"], ["events"], ["measure"], ["plot"], ["page"], ["measure", "--at=0"])
@@ -98,7 +98,7 @@ def with_plain(record, rows, csv, seen):
     """The model, where csv tells no repair: it reads the record, and reads the same."""
     if not csv.keys <= QUIET or "zip" in record or any(ending.endswith(("gz", "cfz")) for ending in record):
         return
-    found = read_plainly(record)
+    found = read_plainly(record, csv.keys | {"padding"})
     wrong = [list(with_model(one, rows, csv.keys)) for one in found]
     seen["as the model"] += bool(found) and [] in wrong
     if not found and not csv.keys:
@@ -120,7 +120,7 @@ def of_times(comtrade, names, show, rows, csv, chance, folder):
         status, out, _ = run(comtrade, "measure", "--json", "--at=%.6f" % at, *names)
         if status == 0:
             measured.append(json.loads(out))
-            yield from compare.with_measure(measured[-1], rows)
+            yield from compare.with_measure(measured[-1], show, rows)
     yield from with_picture(comtrade, names, show, rows, csv)
     yield from with_page(comtrade, names, show, rows, csv, measured, folder)
 
@@ -136,7 +136,7 @@ def disagreements(comtrade, record, names, chance, folder, seen):
     if status != 0:
         yield "csv: status 0, import: status %d: %s" % (status, said.strip()[-200:])
         return
-    if keys_of(out) != csv.keys:
+    if keys_of(out) - UNTOLD != csv.keys - UNTOLD:
         yield "import tells other notes than csv: %s, %s" % (sorted(keys_of(out)), sorted(csv.keys))
     show = as_json(comtrade, "show", "--json", *names)
     rows = Rows(csv.out, len(show["analog"]))

@@ -8,6 +8,8 @@ from views import sized
 EPOCH = datetime(1970, 1, 1)
 # Half a unit of the last digit that is printed: six digits, microseconds, four digits of a picture.
 SIX, MICRO, FOUR = 5.1e-6, 0.00051, 5.1e-4
+# The description of a picture has the peaks of so many channels.
+MOST_PEAKS = 12
 
 
 def micros(text):
@@ -141,9 +143,15 @@ def rms(values):
     return math.sqrt(math.fsum(v * v for v in values) / len(values))
 
 
-def with_measure(made, rows):
-    """What `measure --at` prints, over the rows that it names."""
+def rows_of_cycle(show, row):
+    """The rows of a cycle at the rate of a row, from 1; a part of a row counts too."""
+    return next(rate["rate"] for rate in show["rates"] if row <= rate["last_row"]) / show["frequency"]
+
+
+def with_measure(made, show, rows):
+    """What `measure --at` prints, over the rows that it names; rms values where a cycle has a whole number of rows."""
     first, last = made["first_row"] - 1, made["last_row"]
+    size = rows_of_cycle(show, last)
     phasors = {}
     for k, channel in enumerate(made["channels"]):
         values = rows.values[k][first:last]
@@ -152,7 +160,7 @@ def with_measure(made, rows):
             if channel["rms"] is not None:
                 yield told("measure rms of " + name, channel["rms"], None)
             continue
-        if not near(channel["rms"], rms(values), 1e-12, 1e-300):
+        if size == len(values) and not near(channel["rms"], rms(values), 1e-12, 1e-300):
             yield told("measure rms of " + name, channel["rms"], rms(values))
         peak = max(values, key=abs)
         if not near(abs(channel["peak"]), abs(peak), 1e-12):
@@ -160,8 +168,7 @@ def with_measure(made, rows):
         at = [rows.millis[first + i] for i, v in enumerate(values) if near(v, channel["peak"], 1e-12)]
         if not any(near(channel["peak_ms"], t, 0, MICRO) for t in at):
             yield told("measure peak_ms of " + name, channel["peak_ms"], at)
-        size = len(values) / made["cycles"]
-        if size == int(size) and made["cycles"] == 1:
+        if size == len(values) and made["cycles"] == 1:
             turn = [2 * math.pi * i / size for i in range(len(values))]
             re_part = math.fsum(v * math.cos(t) for v, t in zip(values, turn)) * math.sqrt(2) / size
             im_part = -math.fsum(v * math.sin(t) for v, t in zip(values, turn)) * math.sqrt(2) / size
@@ -191,7 +198,8 @@ def with_currents(made, show, rows):
         ends = {end: rms(values[end - int(cycle):end]) for end in range(left - 1, rows.count + 1) if end >= cycle}
         if not near(current["rms_before"], ends[left - 1], 1e-9):
             yield told("measure rms_before of %s" % current["id"], current["rms_before"], ends.pop(left - 1))
-        if not near(current["rms_greatest"], max(size for end, size in ends.items() if end >= left), 1e-9):
+        # (the greatest until the current keeps to a waveform again)
+        if not any(near(current["rms_greatest"], size, 1e-9) for end, size in ends.items() if end >= left):
             yield told("measure rms_greatest of %s" % current["id"], current["rms_greatest"], max(ends.values()))
 
 
@@ -229,15 +237,16 @@ def with_levels(picture, show, rows, row):
     cycle = show["rates"][0]["rate"] / show["frequency"] if len(show["rates"]) == 1 and show["frequency"] else 0.5
     if cycle != int(cycle) or cycle < 8:
         return
-    for k, channel in enumerate(show["analog"]):
-        if channel["id"] not in picture.rms or None in rows.values[k]:
+    for name, said in picture.rms:
+        parts = re.sub(" (after|before)$", "", said).split(" → ")
+        # (of a long name, the last piece stands there)
+        named = [k for k, channel in enumerate(show["analog"]) if channel["id"].endswith(name)]
+        if any(None in rows.values[k] for k in named):
             continue
-        wanted = around(rows.values[k], row, int(cycle))
-        said = picture.rms[channel["id"]]
-        found = [sized(part, channel["unit"]) for part in re.sub(" (after|before)$", "", said).split(" → ")]
-        wanted = [value for value in wanted if value is not None]
-        if len(found) != len(wanted) or not all(near(one, other, FOUR) for one, other in zip(found, wanted)):
-            yield told("plot rms of %s" % channel["id"], said, wanted)
+        sets = [[value for value in around(rows.values[k], row, int(cycle)) if value is not None] for k in named]
+        if not any(len(parts) == len(wanted) and all(near(sized(part, show["analog"][k]["unit"]), one, FOUR) for part, one in zip(parts, wanted))
+                   for k, wanted in zip(named, sets)):
+            yield told("plot rms of %s" % name, said, sets)
 
 
 def with_bars(picture, show, rows):
@@ -290,11 +299,15 @@ def with_picture(picture, show, rows):
     if not picture.trigger or picture.trigger[1] != show["trigger"]:
         yield "plot trigger: %r, show %r" % (picture.about[:40], show["trigger"])
     drawn = [k for k in range(len(show["analog"])) if extreme(rows, k, 1)[0] is not None]
-    if len(picture.peaks) != len(drawn):
-        yield told("plot peaks", len(picture.peaks), len(drawn))
-        return
-    for k, (name, peak) in zip(drawn, picture.peaks):
+    left = picture.peaks
+    for k in drawn:
         channel = show["analog"][k]
         wanted = max(extreme(rows, k, -1)[0], extreme(rows, k, 1)[0], key=abs)
-        if name != channel["id"] or not near(abs(sized(peak, channel["unit"])), abs(wanted), FOUR):
-            yield told("plot peak of %s" % channel["id"], (name, peak), wanted)
+        left = re.sub(r"^(?: [^;]* no readings;)+", "", left)
+        said = re.match(r" %s (-?[0-9.]+(?:e-?[0-9]+)? [^;]*);" % re.escape(channel["id"]), left)
+        if not said and k >= MOST_PEAKS:
+            break
+        if not said or not near(abs(sized(said[1], channel["unit"])), abs(wanted), FOUR):
+            yield told("plot peak of %s" % channel["id"], left[:60], wanted)
+            break
+        left = left[said.end():]

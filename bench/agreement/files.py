@@ -158,9 +158,3 @@ FORMS = {
     "single": lambda r: {"cff": single(head(r, "ASCII", "2013"), "ASCII", text_rows(r, whole(r), ""))},
     "single-binary": lambda r: {"cff": single(head(r, "BINARY", "2013"), "BINARY", packed_rows(r, "h", -32768))},
 }
-STRICT = ("ascii", "binary", "stamps")
-
-
-def made(chance, form):
-    """The files of a record by chance in a form, by their endings."""
-    return FORMS[form](Record(chance))

@@ -4,7 +4,7 @@ import io
 import math
 import zipfile
 
-from files import MISSING, Record, head, packed_rows, parts, plain_stamps, single, text_rows, whole
+from files import FORMS, MISSING, Record, head, packed_rows, parts, plain_stamps, single, text_rows, whole
 
 NAMES = ["Ток фазы", "珠海母线", "Überstrom", "Île Nº", "電流", "ραφή", "I⁄>"]
 
@@ -40,8 +40,10 @@ def of_size(r, chance, channels, contacts):
     return r
 
 
-def cut_to(r, rows):
-    r.rows, r.trigger, r.rates = rows, min(r.trigger, rows - 1), [(r.rates[-1][0], rows)]
+def shorter(r, rows):
+    """The first rows of a record."""
+    r.rates = [(rate, min(end, rows)) for k, (rate, end) in enumerate(r.rates) if k == 0 or r.rates[k - 1][1] < rows]
+    r.rows, r.trigger = rows, min(r.trigger, rows - 1)
     for c in r.channels:
         c["samples"] = c["samples"][:rows]
     for c in r.contacts:
@@ -174,9 +176,9 @@ MORE = {
     "gbk": lambda r, c: named(r, c, "gbk"),
     "contacts": lambda r, c: ascii_pair(of_size(r, c, 0, c.randrange(1, 40))),
     "channels": lambda r, c: binary_pair(of_size(r, c, c.randrange(1, 9), 0)),
-    "many": lambda r, c: binary_pair(of_size(cut_to(r, min(r.rows, 60)), c, 64, 130)),
-    "one-row": lambda r, c: ascii_pair(cut_to(r, 1)),
-    "two-rows": lambda r, c: binary_pair(cut_to(r, 2)),
+    "many": lambda r, c: binary_pair(of_size(shorter(r, min(r.rows, 60)), c, 64, 130)),
+    "one-row": lambda r, c: ascii_pair(shorter(r, 1)),
+    "two-rows": lambda r, c: binary_pair(shorter(r, 2)),
     "rates-old": lambda r, c: ascii_pair(of_rates(r, c, False)),
     "rates-new": lambda r, c: binary_pair(of_rates(r, c, True)),
     "lenient": spelled,
@@ -208,6 +210,12 @@ MORE = {
 }
 
 
-def made(chance, form):
-    """The files of a record by chance in a form, by their endings."""
-    return MORE[form](Record(chance), chance)
+KNOWN = sorted(FORMS) + sorted(MORE)
+
+
+def made(chance, form, most=None):
+    """The files of a record by chance in a form, by their endings; at most so many rows."""
+    r = Record(chance)
+    if most and r.rows > most:
+        r = shorter(r, chance.randrange(most // 2, most + 1))
+    return MORE[form](r, chance) if form in MORE else FORMS[form](r)

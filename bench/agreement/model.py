@@ -90,8 +90,8 @@ def instant(fields, revision, month_first):
 class Head:
     """What a configuration file says."""
 
-    def __init__(self, cfg, month_first=False):
-        self.lines, self.at = lines_of(cfg), 0
+    def __init__(self, cfg, month_first, keys):
+        self.lines, self.at, self.keys = lines_of(cfg), 0, keys
         names = self.next()
         self.station, self.device = names[0], names[1] if len(names) > 1 else b""
         self.revision = 1991
@@ -114,9 +114,10 @@ class Head:
             need(len(self.rates) < 2 or self.rates[-2][1] <= self.rates[-1][1], "rates go back")
         self.first, self.trigger = (instant(self.next(), self.revision, month_first) for _ in range(2))
         self.kind = self.next(1)[0].upper()
-        self.timemult = decimal(self.next(1)[0]) if self.revision != 1991 else Fraction(1)
-        if self.revision == 2013:
-            self.codes, self.quality = self.next(2), self.next(2)
+        has_more = self.revision != 1991 or self.at < len(self.lines)
+        self.timemult = decimal(self.next(1)[0]) if has_more else Fraction(1)
+        if self.revision == 2013 or "lines-2013-dropped" in self.keys:
+            self.lines = self.lines[:max(self.at, len(self.lines) - 2)]  # (a note quotes both lines)
         need(self.at == len(self.lines), "a line too many")
         known = (b"ASCII", b"BINARY") + ((b"BINARY32", b"FLOAT32") if self.revision == 2013 else ())
         need(self.kind in known, "another type of data")
@@ -129,19 +130,21 @@ class Head:
         return fields
 
     def channel(self, n):
-        fields = self.next(10 if self.revision == 1991 else 13)
+        fields = self.next()
+        need(len(fields) in ((10, 13) if self.revision == 1991 else (13,)), "another number of fields")
         need(whole(fields[0], -BIG, BIG) == n, "another number of a channel")
         a, b = decimal(fields[5]), free(fields[6])
         free(fields[7])
-        if self.revision != 2013:
+        if self.revision != 2013 and "range-form" not in self.keys:
             whole(fields[8], -99999, 99999), whole(fields[9], -99999, 99999)
-        if self.revision != 1991:
+        if len(fields) > 10:
             free(fields[10]), free(fields[11])
             need(fields[12].upper() in (b"P", b"S"), "no side")
         return fields[1], fields[4], a, b
 
     def contact(self, n):
-        fields = self.next(3 if self.revision == 1991 else 5)
+        fields = self.next()
+        need(len(fields) in ((3, 5) if self.revision == 1991 else (5,)), "another number of fields")
         need(whole(fields[0], -BIG, BIG) == n, "another number of a channel")
         if fields[-1]:
             bit(fields[-1])
@@ -157,6 +160,10 @@ class Record:
         if head.kind == b"ASCII":
             lines = lines_of(dat.split(b"\x1a")[0])
             need(len(lines) == last, "another number of rows")
+            # (99999 is the mark of a missing sample in a channel of whole numbers alone, before 2013)
+            k = len(head.analog)
+            self.has_marks = [head.revision != 2013 and not any(re.search(rb"[.eE]", field) for fields in lines for field in fields[2 + c:3 + c])
+                              for c in range(k)]
             self.rows = [self.text_row(fields) for fields in lines]
         else:
             form, self.missing = {b"BINARY": ("h", -32768), b"BINARY32": ("i", -(1 << 31)), b"FLOAT32": ("f", None)}[head.kind]
@@ -170,15 +177,17 @@ class Record:
         need(len(fields) == 2 + k + m, "another number of fields in a row")
         stamp = whole(fields[1], 0, TEN_DIGITS) if fields[1] else None
         number = whole(fields[0], 0, TEN_DIGITS)
-        return number, stamp, [self.sample(x) for x in fields[2:2 + k]], [bit(x) for x in fields[2 + k:]]
+        return number, stamp, [self.sample(x, c) for c, x in enumerate(fields[2:2 + k])], [bit(x) for x in fields[2 + k:]]
 
-    def sample(self, field):
+    def sample(self, field, channel):
         if not field:
             return None
-        if self.head.revision == 2013:
-            return decimal(field)
-        value = whole(field, -99999, 99999)
-        return None if value == 99999 else value
+        if self.head.revision == 2013 or "values-decimal" in self.head.keys:
+            value = decimal(field)
+        else:
+            most = BIG if "values-wide" in self.head.keys else 99999
+            value = whole(field, -most, most)
+        return None if value == 99999 and self.has_marks[channel] else value
 
     def packed_row(self, row):
         k = len(self.head.analog)
@@ -227,9 +236,11 @@ def sections(single):
     raise NotPlain("no section DAT")
 
 
-def read(files, month_first=False):
-    """The record of a pair or a single file: its files by ending."""
+def read(files, month_first=False, keys=frozenset()):
+    """The record of a pair or a single file: its files by ending. Three keys of `import` allow what they
+    tell of: samples with a point or many digits, and a channel's range in another form. `padding` allows
+    what has no other meaning: NULs at the end, and blanks for the first digit of minutes and the like."""
     cfg, dat = sections(files["cff"]) if "cff" in files else (files["cfg"], files["dat"])
-    if cfg.startswith(b"\xef\xbb\xbf"):
-        raise NotPlain("a byte order mark")
-    return Record(Head(cfg, month_first), dat)
+    if "padding" in keys:
+        cfg = re.sub(rb"(?<=[:/,]) (?=[0-9][:/.])", b"0", cfg.rstrip(b"\r\n\0"))
+    return Record(Head(cfg, month_first, keys), dat)

@@ -3,7 +3,6 @@ import os
 import random
 import re
 
-import files
 import forms
 
 ENDINGS = ("cff", "zip", "cfz", "cff.gz")
@@ -11,11 +10,9 @@ ENDINGS = ("cff", "zip", "cfz", "cff.gz")
 
 def by_chance(count, seed):
     """Records by chance: their name, and their files by ending."""
-    known = sorted(files.FORMS) + sorted(forms.MORE)
     for n in range(count):
-        form = known[n % len(known)]
-        chance = random.Random(seed * 1000003 + n)
-        yield "%s %d" % (form, n), (files if form in files.FORMS else forms).made(chance, form)
+        form = forms.KNOWN[n % len(forms.KNOWN)]
+        yield "%s %d" % (form, n), forms.made(random.Random(seed * 1000003 + n), form)
 
 
 def content(folder, name):

@@ -60,13 +60,12 @@ def panels(svg):
         yield Panel(text[title[-1].start():], title[-1][1], float(frame[1]), float(frame[2])), names
 
 
-def wanted_of(show, rows):
-    """The channels that have a value, by the names that legends give them."""
+def wanted_of(show):
+    """The channels by the names that legends give them."""
     found = {}
     for k, channel in enumerate(show["analog"]):
-        if any(value is not None for value in rows.values[k]):
-            for name in {channel["id"], "%s (%s)" % (channel["id"], channel["phase"])}:
-                found.setdefault(name, []).append(k)
+        for name in {channel["id"], "%s (%s)" % (channel["id"], channel["phase"])}:
+            found.setdefault(name, []).append(k)
     return found
 
 
@@ -90,7 +89,7 @@ def with_traces(svg, show, rows):
     scale = {"s": 1e3, "ms": 1.0, "µs": 1e-3}[unit[1]]
     at = line_through([(float(label) * scale, float(x)) for x, label in axis])
     beside_x = 0.07 + 0.12 * 840 / (float(axis[-1][0]) - float(axis[0][0])) + (0.5 if rows.count > 800 else 0)
-    wanted, seen = wanted_of(show, rows), 0
+    wanted, seen = wanted_of(show), 0
     for panel, names in panels(svg):
         if len(names) != len(panel.traces):
             yield told("plot legends", names, len(panel.traces))
@@ -102,9 +101,8 @@ def with_traces(svg, show, rows):
             elif panel.is_scaled:
                 yield from with_trace(panel, name, trace, [show["analog"][k] for k in wanted[name]],
                                       [rows.values[k] for k in wanted[name]], [at(ms) for ms in rows.millis], beside_x)
-    drawn = sum(any(value is not None for value in values) for values in rows.values)
-    if seen != drawn:
-        yield told("plot traces", seen, drawn)
+    if seen != len(rows.values):
+        yield told("plot traces", seen, len(rows.values))
 
 
 def with_trace(panel, name, trace, channels, series, xs, beside_x):

@@ -45,7 +45,7 @@ def as_json(program, *words):
     return json.loads(out)
 
 
-PREFIX = {"G": 1e9, "M": 1e6, "k": 1e3, "": 1.0, "m": 1e-3, "µ": 1e-6, "u": 1e-6}
+PREFIX = {"E": 1e18, "P": 1e15, "T": 1e12, "G": 1e9, "M": 1e6, "k": 1e3, "": 1.0, "m": 1e-3, "µ": 1e-6, "u": 1e-6, "n": 1e-9, "p": 1e-12}
 
 
 def sized(text, unit):
@@ -70,9 +70,9 @@ class Picture:
     def __init__(self, text):
         self.about = unescape(re.search(r"<desc[^>]*>(.*?)</desc>", text, re.S)[1])
         self.trigger = re.match(r"Trigger (\S+ \S+)\. ", self.about)
-        self.peaks = re.findall(r" ([^;]*?) (-?[0-9.]+(?:e-?[0-9]+)? [^;]*);", self.about.partition("Peaks:")[2])
+        self.peaks = self.about.partition("Peaks:")[2]
         legends = re.findall(r'<text x="948" y="[0-9.]+">([^<]*?)(?: \([A-Za-z0-9]+\))?</text>\n<text [^>]*>peak [^<]*?, rms ([^<]*)<', text)
-        self.rms = {unescape(name): said for name, said in legends}
+        self.rms = [(unescape(name), said) for name, said in legends]
         ends = re.findall(r'<text x="([0-9.]+)" y="62" text-anchor="middle">(-?[0-9.]+)</text>', text)
         unit = re.search(r'y="62">([^<]*) since the trigger<', text)
         scale = {"s": 1e3, "ms": 1.0, "µs": 1e-3}[unit[1]] if unit else 1.0

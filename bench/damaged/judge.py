@@ -1,10 +1,9 @@
 """Runs commands over damaged files and says what is wrong with the answers."""
-import json
 import os
 import resource
 import subprocess
 
-from against import keys_of, read_plainly, with_model, QUIET
+from against import keys_of, read_plainly, with_model, QUIET, UNTOLD
 from views import Rows
 
 # Views by chance: each reads the same file as csv, so it is refused if csv is.
@@ -71,7 +70,7 @@ class Judge:
             self.seen["read, repairs told"] += 1
 
     def plainly(self, answer, files, keys):
-        found = read_plainly(files)
+        found = read_plainly(files, keys | {"padding"})
         if not found:
             yield "csv reads files that aren't plain, and tells %s" % (sorted(keys) or "nothing")
             return
@@ -86,13 +85,11 @@ class Judge:
 
     def checked(self, names, files):
         """`check` finds no error if and only if the files are a plain pair of 1999."""
-        answer = self.run("check", "--json", *names)
-        yield answer.fault()
-        if answer.status in (0, 1) and not answer.is_late and answer.out:
-            is_sound = json.loads(answer.out)["sound"]
-            is_plain = "cff" not in files and any(one.head.revision == 1999 for one in read_plainly(files))
-            if is_sound != is_plain:
-                yield "check: sound %s, plain %s: %s" % (is_sound, is_plain, answer.out[:300])
+        answer = self.run("check", *names)
+        fault = answer.fault()
+        is_plain = "cff" not in files and any(one.head.revision == 1999 for one in read_plainly(files))
+        if fault or (answer.status == 0) != is_plain:
+            yield "check: %s, status %d, plain %s: %s" % (fault, answer.status, is_plain, answer.out[:300])
 
     def viewed(self, names, words, csv):
         """A view by chance."""
@@ -112,8 +109,9 @@ class Judge:
         if fault or answer.status != csv.status or there != [answer.status == 0] * 2:
             yield "import: %s, status %d, csv %d, files %s" % (fault, answer.status, csv.status, there)
         elif answer.status == 0:
-            if keys_of(answer.out.decode("utf-8", "replace")) != keys_of(csv.said):
-                yield "import tells other notes than csv"
+            told = keys_of(answer.out.decode("utf-8", "replace")) ^ keys_of(csv.said)
+            if told - UNTOLD:
+                yield "import tells other notes than csv: %s" % sorted(told)
             done = self.run("check", new)
             if done.status != 0:
                 yield "import wrote a pair with an error: %s" % done.out[:200]

@@ -29,7 +29,7 @@ ROW = 8 + 2 * CHANNELS
 
 def samples(rng):
     """Bytes of some kind."""
-    kind, size = rng.randrange(7), rng.choice((1, 30, 100, 3000, 40000, 70000))
+    kind, size = rng.randrange(7), rng.choice((1, 30, 100, 300, 1000, 3000, 3000, 10000, 40000))
     if kind == 0:
         return rng.randbytes(size)
     if kind == 1:
@@ -43,7 +43,7 @@ def samples(rng):
         return bytes(rng.randrange(3) for _ in range(size))
     if kind == 5:
         piece = rng.randbytes(rng.randrange(1, 300))
-        return (piece + bytes(32768 - len(piece) - rng.randrange(3)) + piece)[: size + 33000]
+        return (piece + bytes(32768 - len(piece) - rng.randrange(3)) + piece)[: size + 33000 * (size > 1000)]
     return bytes(rng.choices(range(256), weights=[2 ** -min(i, 40) for i in range(256)], k=size))
 
 
