@@ -13,7 +13,7 @@ QUIET = {"revision-1991", "revision-2013", "sides-absent", "years-2-digits", "da
          "trigger-before-first"}
 # What import tells of texts that the views show as they are, and of what stays as it is.
 UNTOLD = {"bom", "texts-not-ascii", "text-long", "phase-long", "unit-empty", "ids-alike", "text-nul", "text-comma",
-          "trigger-before-first", "a-zero", "status-spare-bits"}
+          "trigger-before-first", "a-zero", "status-spare-bits", "dat-after-end"}
 PLAIN = re.compile(rb"[A-Za-z0-9 /_.-]*")
 
 

@@ -3,7 +3,9 @@ import json
 import os
 
 import compare
+import measures
 import pages
+import pictures
 import traces
 from against import keys_of, read_plainly, with_model, QUIET, UNTOLD
 from views import Page, Picture, Rows, Shown, as_json, run
@@ -50,12 +52,12 @@ def with_picture(comtrade, names, show, rows, csv):
         yield "plot: status %d: %s" % (status, said.strip()[-200:])
         return
     picture = Picture(out)
-    yield from compare.with_picture(picture, show, rows)
-    yield from compare.with_bars(picture, show, rows)
+    yield from pictures.with_picture(picture, show, rows)
+    yield from pictures.with_bars(picture, show, rows)
     yield from traces.with_traces(out, show, rows)
     row = inception_of(comtrade, names, rows)
     if row is not None:
-        yield from compare.with_levels(picture, show, rows, row)
+        yield from pictures.with_levels(picture, show, rows, row)
     if said != csv.said:
         yield "plot tells other notes than csv: %r, %r" % (said, csv.said)
 
@@ -114,13 +116,13 @@ def of_times(comtrade, names, show, rows, csv, chance, folder):
     yield from compare.with_events(as_json(comtrade, "events", "--json", names[0]), show, rows)
     status, out, _ = run(comtrade, "measure", "--json", *names)
     if status == 0:
-        yield from compare.with_currents(json.loads(out), show, rows)
+        yield from measures.with_currents(json.loads(out), show, rows)
     measured = []
     for at in moments(rows, chance):
         status, out, _ = run(comtrade, "measure", "--json", "--at=%.6f" % at, *names)
         if status == 0:
             measured.append(json.loads(out))
-            yield from compare.with_measure(measured[-1], show, rows)
+            yield from measures.with_measure(measured[-1], show, rows)
     yield from with_picture(comtrade, names, show, rows, csv)
     yield from with_page(comtrade, names, show, rows, csv, measured, folder)
 

@@ -3,13 +3,9 @@ import math
 import re
 from datetime import datetime
 
-from views import sized
-
 EPOCH = datetime(1970, 1, 1)
 # Half a unit of the last digit that is printed: six digits, microseconds, four digits of a picture.
 SIX, MICRO, FOUR = 5.1e-6, 0.00051, 5.1e-4
-# The description of a picture has the peaks of so many channels.
-MOST_PEAKS = 12
 
 
 def micros(text):
@@ -139,70 +135,6 @@ def with_events(listed, show, rows):
             yield told("event", one, other)
 
 
-def rms(values):
-    return math.sqrt(math.fsum(v * v for v in values) / len(values))
-
-
-def rows_of_cycle(show, row):
-    """The rows of a cycle at the rate of a row, from 1; a part of a row counts too."""
-    return next(rate["rate"] for rate in show["rates"] if row <= rate["last_row"]) / show["frequency"]
-
-
-def with_measure(made, show, rows):
-    """What `measure --at` prints, over the rows that it names; rms values where a cycle has a whole number of rows."""
-    first, last = made["first_row"] - 1, made["last_row"]
-    size = rows_of_cycle(show, last)
-    phasors = {}
-    for k, channel in enumerate(made["channels"]):
-        values = rows.values[k][first:last]
-        name = "%s, rows %d to %d" % (channel["id"], first + 1, last)
-        if None in values:
-            if channel["rms"] is not None:
-                yield told("measure rms of " + name, channel["rms"], None)
-            continue
-        if size == len(values) and not near(channel["rms"], rms(values), 1e-12, 1e-300):
-            yield told("measure rms of " + name, channel["rms"], rms(values))
-        peak = max(values, key=abs)
-        if not near(abs(channel["peak"]), abs(peak), 1e-12):
-            yield told("measure peak of " + name, channel["peak"], peak)
-        at = [rows.millis[first + i] for i, v in enumerate(values) if near(v, channel["peak"], 1e-12)]
-        if not any(near(channel["peak_ms"], t, 0, MICRO) for t in at):
-            yield told("measure peak_ms of " + name, channel["peak_ms"], at)
-        if size == len(values) and made["cycles"] == 1:
-            turn = [2 * math.pi * i / size for i in range(len(values))]
-            re_part = math.fsum(v * math.cos(t) for v, t in zip(values, turn)) * math.sqrt(2) / size
-            im_part = -math.fsum(v * math.sin(t) for v, t in zip(values, turn)) * math.sqrt(2) / size
-            phasors[channel["n"]] = complex(re_part, im_part)
-            beside = 1e-9 * max(abs(v) for v in values)
-            if not near(channel["magnitude"], abs(phasors[channel["n"]]), 1e-9, beside):
-                yield told("measure magnitude of " + name, channel["magnitude"], abs(phasors[channel["n"]]))
-    angles = {channel["n"]: channel["angle"] for channel in made["channels"]}
-    base = phasors.get(made["reference"])
-    for n, phasor in phasors.items():
-        if base and angles[n] is not None and abs(phasor) > 1e-3:
-            off = (math.degrees(math.atan2((phasor / base).imag, (phasor / base).real)) - angles[n] + 180) % 360 - 180
-            if abs(off) > 1e-5:
-                yield told("measure angle of channel %d" % n, angles[n], off)
-
-
-def with_currents(made, show, rows):
-    """What `measure` prints without a moment: rms values of the cycle before the inception and of the greatest after it."""
-    cycle = show["rates"][0]["rate"] / show["frequency"] if len(show["rates"]) == 1 and show["frequency"] else 0.5
-    numbers = [current["n"] for current in made["currents"]]
-    for current in made["currents"]:
-        values, left = rows.values[current["n"] - 1], current["left_row"]
-        if left is None or cycle != int(cycle) or None in values or numbers.count(current["n"]) > 1:
-            continue
-        if not near(current["left_ms"], rows.millis[left - 1], 0, MICRO):
-            yield told("measure left_ms of %s" % current["id"], current["left_ms"], rows.millis[left - 1])
-        ends = {end: rms(values[end - int(cycle):end]) for end in range(left - 1, rows.count + 1) if end >= cycle}
-        if not near(current["rms_before"], ends[left - 1], 1e-9):
-            yield told("measure rms_before of %s" % current["id"], current["rms_before"], ends.pop(left - 1))
-        # (the greatest until the current keeps to a waveform again)
-        if not any(near(current["rms_greatest"], size, 1e-9) for end, size in ends.items() if end >= left):
-            yield told("measure rms_greatest of %s" % current["id"], current["rms_greatest"], max(ends.values()))
-
-
 def with_import(imported, rows, is_rounded):
     """The rows of what `import` wrote. Samples may be rounded where a note says so."""
     if imported.count != rows.count:
@@ -221,61 +153,6 @@ def with_import(imported, rows, is_rounded):
                 break
 
 
-def around(values, row, cycle):
-    """The rms values before and after a row: of the last but one cycle before it, or the last, and of the next one."""
-    before = after = None
-    for end in (row - cycle, row):
-        if end - cycle >= 0 and before is None:
-            before = rms(values[end - cycle:end])
-    if row + cycle <= len(values):
-        after = rms(values[row:row + cycle])
-    return before, after
-
-
-def with_levels(picture, show, rows, row):
-    """The rms values in `plot` around an inception or a trigger, where a cycle has a whole number of rows."""
-    cycle = show["rates"][0]["rate"] / show["frequency"] if len(show["rates"]) == 1 and show["frequency"] else 0.5
-    if cycle != int(cycle) or cycle < 8:
-        return
-    for name, said in picture.rms:
-        parts = re.sub(" (after|before)$", "", said).split(" → ")
-        # (of a long name, the last piece stands there)
-        named = [k for k, channel in enumerate(show["analog"]) if channel["id"].endswith(name)]
-        if any(None in rows.values[k] for k in named):
-            continue
-        sets = [[value for value in around(rows.values[k], row, int(cycle)) if value is not None] for k in named]
-        if not any(len(parts) == len(wanted) and all(near(sized(part, show["analog"][k]["unit"]), one, FOUR) for part, one in zip(parts, wanted))
-                   for k, wanted in zip(named, sets)):
-            yield told("plot rms of %s" % name, said, sets)
-
-
-def with_bars(picture, show, rows):
-    """The bars of contacts in `plot`: each begins and ends where the contact changes, to a tenth of a pixel."""
-    bars = dict(picture.bars)
-    if len(picture.times) < 2 or rows.millis != sorted(rows.millis):
-        return
-    for k, contact in enumerate(show["status"]):
-        spans, begin = [], None
-        for i, bit in enumerate(rows.bits[k] + [0]):
-            if bit and begin is None:
-                begin = i
-            if not bit and begin is not None:
-                spans.append((rows.millis[begin], rows.millis[min(i, rows.count - 1)]))
-                begin = None
-        drawn = bars.get(contact["id"])
-        if drawn is None:
-            yield told("plot bars of %s" % contact["id"], None, spans)
-            continue
-        drawn = [(picture.time_at(x), picture.time_at(end)) for x, end in drawn]
-        if sum(end - x for x, end in spans) and not drawn:
-            yield told("plot bars of %s" % contact["id"], drawn, spans)
-        # Bars that would overlap are drawn as one, and the least width is half a pixel.
-        reach = 8 * picture.step()
-        for x, end in spans:
-            if not any(a - reach <= x and end <= b + reach for a, b in drawn):
-                yield told("plot bar of %s" % contact["id"], drawn, (x, end))
-
-
 def with_library(record, show, rows):
     """The tables of the C library, by the Python package."""
     if len(record) != rows.count:
@@ -292,22 +169,3 @@ def with_library(record, show, rows):
                 break
     if [list(contact.bits) for contact in record.status] != rows.bits:
         yield "library bits: others than csv"
-
-
-def with_picture(picture, show, rows):
-    """The texts of `plot`: peaks and the trigger."""
-    if not picture.trigger or picture.trigger[1] != show["trigger"]:
-        yield "plot trigger: %r, show %r" % (picture.about[:40], show["trigger"])
-    drawn = [k for k in range(len(show["analog"])) if extreme(rows, k, 1)[0] is not None]
-    left = picture.peaks
-    for k in drawn:
-        channel = show["analog"][k]
-        wanted = max(extreme(rows, k, -1)[0], extreme(rows, k, 1)[0], key=abs)
-        left = re.sub(r"^(?: [^;]* no readings;)+", "", left)
-        said = re.match(r" %s (-?[0-9.]+(?:e-?[0-9]+)? [^;]*);" % re.escape(channel["id"]), left)
-        if not said and k >= MOST_PEAKS:
-            break
-        if not said or not near(abs(sized(said[1], channel["unit"])), abs(wanted), FOUR):
-            yield told("plot peak of %s" % channel["id"], left[:60], wanted)
-            break
-        left = left[said.end():]

@@ -96,11 +96,13 @@ def with_traces(svg, show, rows):
             continue
         for name, trace in zip(names, panel.traces):
             seen += 1
-            if name not in wanted:
+            # (of a long name, the last piece stands there)
+            its = sorted({k for whole, numbers in wanted.items() if whole.endswith(name) for k in numbers})
+            if not its:
                 yield told("plot trace", name, sorted(wanted))
             elif panel.is_scaled:
-                yield from with_trace(panel, name, trace, [show["analog"][k] for k in wanted[name]],
-                                      [rows.values[k] for k in wanted[name]], [at(ms) for ms in rows.millis], beside_x)
+                yield from with_trace(panel, name, trace, [show["analog"][k] for k in its], [rows.values[k] for k in its],
+                                      [at(ms) for ms in rows.millis], beside_x)
     if seen != len(rows.values):
         yield told("plot traces", seen, len(rows.values))
 
