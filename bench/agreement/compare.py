@@ -157,7 +157,7 @@ def with_library(record, show, rows):
     """The tables of the C library, by the Python package."""
     if len(record) != rows.count:
         yield told("library rows", len(record), rows.count)
-    for i, nanos in enumerate(record.times_ns):
+    for i, nanos in enumerate(record.times_ns if None not in rows.millis else ()):
         if nanos != round((rows.millis[i] - rows.millis[0]) * 1e6):
             yield told("library time of row %d" % (i + 1), nanos, rows.millis[i] - rows.millis[0])
             break

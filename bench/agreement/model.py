@@ -44,7 +44,7 @@ def whole(field, low, high):
     return value
 
 
-def decimal(field):
+def decimal(field, most=80):
     """A decimal of at most 36 digits, 80 of them after the point."""
     found = DECIMAL.fullmatch(field)
     need(found and (found[2] or found[3]) and len(field) < 4000, "no decimal")
@@ -57,7 +57,7 @@ def decimal(field):
     else:
         need(digits == 0 or power < 200, "a decimal out of its range")
         digits, places = digits * 10 ** min(power - places, 300), 0
-    need(digits < BIG and places <= 80, "a decimal out of its range")
+    need(digits < BIG and places <= most, "a decimal out of its range")
     return Fraction(-digits if found[1] == b"-" else digits, 10 ** places)
 
 
@@ -183,7 +183,7 @@ class Record:
         if not field:
             return None
         if self.head.revision == 2013 or "values-decimal" in self.head.keys:
-            value = decimal(field)
+            value = decimal(field, 400)
         else:
             most = BIG if "values-wide" in self.head.keys else 99999
             value = whole(field, -most, most)

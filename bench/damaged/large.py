@@ -52,7 +52,7 @@ def large(bench, folder):
         for k in range(min(5, bench.asked.large - n * 5)):
             spoiled, ways = damaged(chance, record)
             name = "large %d-%d: %s" % (n, k, "; ".join(ways))
-            bench.seen["damaged, large"] += 1
+            bench.seen["damaged of 20,000 rows"] += 1
             for (_, before), (words, answer) in zip(good, times_of(judge, put(spoiled, folder), folder)):
                 if answer.fault():
                     bench.tell(name, spoiled, "%s: %s" % (words[0], answer.fault()))
