@@ -1,4 +1,5 @@
-"""What disagrees about one record: each command against the rows of `csv`, and these against the model."""
+"""What disagrees about one record: each command against the rows of `csv`, and these against the
+model."""
 import json
 import os
 
@@ -10,7 +11,8 @@ import traces
 from against import keys_of, read_plainly, with_model, QUIET, UNTOLD
 from views import Page, Picture, Rows, Shown, as_json, run
 
-VIEWS = (["show"], ["show", "--json"], ["list"], ["events"], ["measure"], ["plot"], ["page"], ["measure", "--at=0"])
+VIEWS = (["show"], ["show", "--json"], ["list"], ["events"], ["measure"], ["plot"], ["page"],
+         ["measure", "--at=0"])
 
 
 class Told:
@@ -24,7 +26,8 @@ class Told:
 def refused_by_all(comtrade, names, folder):
     """A record that csv refuses is refused by every command, with a reason and without output."""
     for words in VIEWS:
-        status, out, said = run(comtrade, *words, *(names[:1] if words[0] in ("list", "events") else names))
+        status, out, said = run(comtrade, *words,
+                                *(names[:1] if words[0] in ("list", "events") else names))
         quiet = words[0] in ("list", "events") or not out
         if status != 1 or not (said or out).strip() or not quiet:
             yield "csv refuses, %s: status %d: %s" % (" ".join(words), status, said.strip()[-200:])
@@ -35,15 +38,18 @@ def refused_by_all(comtrade, names, folder):
 
 def with_notes(comtrade, names, csv):
     """Every command tells the same repairs."""
-    for words in (["show", "--json"], ["list", "--json"], ["events", "--json"], ["measure", "--json"], ["plot", "--whole", "--all"], ["page"]):
+    for words in (["show", "--json"], ["list", "--json"], ["events", "--json"],
+                  ["measure", "--json"], ["plot", "--whole", "--all"], ["page"]):
         said = run(comtrade, *words, *(names[:1] if words[0] in ("list", "events") else names))[2]
         if not csv.keys <= keys_of(said) and not said.startswith("comtrade: "):
-            yield "%s tells other notes than csv: %s, %s" % (words[0], sorted(keys_of(said)), sorted(csv.keys))
+            yield "%s tells other notes than csv: %s, %s" % (words[0], sorted(keys_of(said)),
+                                                             sorted(csv.keys))
 
 
 def moments(rows, chance):
     """Times at which a record is measured: at the end, and two by chance."""
-    return [rows.millis[-1]] + [chance.choice(rows.millis[len(rows.millis) // 2:]) for _ in range(2)]
+    return [rows.millis[-1]] + [chance.choice(rows.millis[len(rows.millis) // 2:])
+                                for _ in range(2)]
 
 
 def with_picture(comtrade, names, show, rows, csv):
@@ -63,9 +69,11 @@ def with_picture(comtrade, names, show, rows, csv):
 
 
 def inception_of(comtrade, names, rows):
-    """The index of the row around which `plot` gives rms values: the first inception of a current, or the trigger."""
+    """The index of the row around which `plot` gives rms values: the first inception of a current,
+    or the trigger."""
     status, out, _ = run(comtrade, "measure", "--json", *names)
-    left = [c["left_row"] for c in json.loads(out)["currents"] if c["left_row"] is not None] if status == 0 else []
+    left = [c["left_row"] for c in json.loads(out)["currents"]
+            if c["left_row"] is not None] if status == 0 else []
     later = [i for i, ms in enumerate(rows.millis) if ms >= 0]
     return min(left) - 1 if left else (later[0] if later else None)
 
@@ -77,7 +85,8 @@ def with_page(comtrade, names, show, rows, csv, measured, folder):
         yield "page: status %d: other notes than csv: %r, %r" % (status, said, csv.said)
         return
     yield from pages.with_page(Page(out), show, rows)
-    shown = Shown.of(out, folder, sorted({made["last_row"] for made in measured} | {1, rows.count}))
+    shown = Shown.of(out, folder,
+                     sorted({made["last_row"] for made in measured} | {1, rows.count}))
     if shown:
         yield from pages.with_script(shown, show, rows, measured)
 
@@ -98,7 +107,8 @@ def with_import(comtrade, show, rows, csv, folder, has_library):
 
 def with_plain(record, rows, csv, seen):
     """The model, where csv tells no repair: it reads the record, and reads the same."""
-    if not csv.keys <= QUIET or "zip" in record or any(ending.endswith(("gz", "cfz")) for ending in record):
+    if not csv.keys <= QUIET or "zip" in record or any(ending.endswith(("gz", "cfz"))
+                                                       for ending in record):
         return
     found = read_plainly(record, csv.keys | {"padding"})
     wrong = [list(with_model(one, rows, csv.keys)) for one in found]
@@ -139,7 +149,8 @@ def disagreements(comtrade, record, names, chance, folder, seen):
         yield "csv: status 0, import: status %d: %s" % (status, said.strip()[-200:])
         return
     if keys_of(out) - UNTOLD != csv.keys - UNTOLD:
-        yield "import tells other notes than csv: %s, %s" % (sorted(keys_of(out)), sorted(csv.keys))
+        yield "import tells other notes than csv: %s, %s" % (sorted(keys_of(out)),
+                                                             sorted(csv.keys))
     show = as_json(comtrade, "show", "--json", *names)
     rows = Rows(csv.out, len(show["analog"]))
     seen["with notes"] += bool(csv.keys)
@@ -151,4 +162,5 @@ def disagreements(comtrade, record, names, chance, folder, seen):
     else:
         seen["compared in all"] += 1
         yield from of_times(comtrade, names, show, rows, csv, chance, folder)
-    yield from with_import(comtrade, show, rows, csv, folder, bool(os.environ.get("DFR_COMTRADE_LIBRARY")))
+    yield from with_import(comtrade, show, rows, csv, folder,
+                           bool(os.environ.get("DFR_COMTRADE_LIBRARY")))

@@ -1,10 +1,12 @@
-"""Compares what two commands print of the same record. Each function yields what disagrees, in words."""
+"""Compares what two commands print of the same record. Each function yields what disagrees, in
+words."""
 import math
 import re
 from datetime import datetime
 
 EPOCH = datetime(1970, 1, 1)
-# Half a unit of the last digit that is printed: six digits, microseconds, four digits of a picture.
+# Half a unit of the last digit that is printed: six digits, microseconds, four digits of a
+# picture.
 SIX, MICRO, FOUR = 5.1e-6, 0.00051, 5.1e-4
 
 
@@ -86,7 +88,8 @@ def with_list(listed, show, rows):
         if channel["unit"] in ("A", "kA"):
             least, greatest = extreme(rows, k, -1)[0], extreme(rows, k, 1)[0]
             if least is not None:
-                peaks.setdefault(channel["id"], []).append((max(least, greatest, key=abs), channel["unit"]))
+                peak = max(least, greatest, key=abs), channel["unit"]
+                peaks.setdefault(channel["id"], []).append(peak)
     said = re.match(r"(.*) (-?[0-9.e+-]+) (k?A), of nominal ", line["greatest_current"] or "")
     if bool(said) != bool(peaks):
         yield told("list greatest_current", line["greatest_current"], peaks)
@@ -96,7 +99,8 @@ def with_list(listed, show, rows):
 
 
 def gaps_of(rows):
-    """Runs of rows with missing samples: the first and the last row, and the most channels that miss one."""
+    """Runs of rows with missing samples: the first and the last row, and the most channels that
+    miss one."""
     gaps, begin = [], None
     missing = [sum(values[i] is None for values in rows.values) for i in range(rows.count)] + [0]
     for i, count in enumerate(missing):
@@ -110,12 +114,14 @@ def gaps_of(rows):
 
 def with_events(listed, show, rows):
     """What `events` prints: each change of a contact, each gap, and the trigger."""
-    wanted = sorted((at, k + 1, bit) for k in range(len(rows.bits)) for at, bit in changes_of(rows, k))
+    wanted = sorted((at, k + 1, bit)
+                    for k in range(len(rows.bits)) for at, bit in changes_of(rows, k))
     found, gaps = [], []
     by_time = dict(zip(("%.3f" % ms for ms in rows.millis), rows.instants))
     for event in listed["events"]:
         said = re.match(r"D([0-9]+) (?:.* )?([01])$", event["what"])
-        gap = re.match(r"readings of ([0-9]+) channels? missing, rows? ([0-9]+)(?: to ([0-9]+))?$", event["what"])
+        gap = re.match(r"readings of ([0-9]+) channels? missing, rows? ([0-9]+)(?: to ([0-9]+))?$",
+                       event["what"])
         if said:
             found.append((event["ms"], int(said[1]), int(said[2])))
         elif gap:

@@ -1,10 +1,12 @@
-"""More forms of records by chance: containers, encodings, sizes, clocks, and lines as the field writes them."""
+"""More forms of records by chance: containers, encodings, sizes, clocks, and lines as the field
+writes them."""
 import gzip
 import io
 import math
 import zipfile
 
-from files import FORMS, MISSING, Record, head, packed_rows, parts, plain_stamps, single, text_rows, whole
+from files import FORMS, MISSING, Record, head, packed_rows, parts
+from files import plain_stamps, single, text_rows, whole
 
 NAMES = ["Ток фазы", "珠海母线", "Überstrom", "Île Nº", "電流", "ραφή", "I⁄>"]
 
@@ -42,7 +44,8 @@ def of_size(r, chance, channels, contacts):
 
 def shorter(r, rows):
     """The first rows of a record."""
-    r.rates = [(rate, min(end, rows)) for k, (rate, end) in enumerate(r.rates) if k == 0 or r.rates[k - 1][1] < rows]
+    r.rates = [(rate, min(end, rows)) for k, (rate, end) in enumerate(r.rates) if k == 0
+               or r.rates[k - 1][1] < rows]
     r.rows, r.trigger = rows, min(r.trigger, rows - 1)
     for c in r.channels:
         c["samples"] = c["samples"][:rows]
@@ -70,8 +73,10 @@ def of_rates(r, chance, is_new):
 def spelled(r, chance):
     """Every leniency of the exact reader: blanks, letters, signs, zeros in front, no end mark."""
     cfg, dat = head(r, "ascii").decode(), text_rows(r, whole(r)).decode()
-    cfg = "\n".join(line.replace(",", chance.choice([",", " ,", ",\t", " , "])) for line in cfg.split("\r\n"))
-    rows = [[chance.choice(["%s", " %s", "%s\t", "+%s", "00%s"]) % x if x.isdigit() else x for x in row.split(",")]
+    cfg = "\n".join(line.replace(",", chance.choice([",", " ,", ",\t", " , "]))
+                    for line in cfg.split("\r\n"))
+    rows = [[chance.choice(["%s", " %s", "%s\t", "+%s", "00%s"]) % x if x.isdigit() else x
+             for x in row.split(",")]
             for row in dat.split("\r\n") if row]
     end = chance.choice(["", "\n", "\r\n", "\x1a", "\r\n\x1a and more"])
     return {"cfg": cfg.encode(), "dat": ("\n".join(",".join(row) for row in rows) + end).encode()}
@@ -106,7 +111,8 @@ def flat(r, chance):
 def limits(r, chance):
     """Samples at the limits of ASCII data, and factors with many digits."""
     for c in r.channels:
-        c["samples"] = [chance.choice([-99999, 99998, 0, 1, -1, 32768, MISSING]) for _ in range(r.rows)]
+        c["samples"] = [chance.choice([-99999, 99998, 0, 1, -1, 32768, MISSING])
+                        for _ in range(r.rows)]
         c["a"] = chance.choice(["0.000123456789012345", "1E-9", "123456.789", "-1", "7.0E+5"])
         c["b"] = chance.choice(["0", "1E10", "-0.000001", "99.5"])
     return ascii_pair(r)
@@ -133,7 +139,8 @@ def around(r, chance):
 def year_end(r, chance):
     pair = ascii_pair(r)
     day = b"%02d/03/2024" % r.day
-    return {"cfg": pair["cfg"].replace(day + b",10:15:2", chance.choice([b"31/12/1999,23:59:5", b"01/01/0001,00:00:0"])), "dat": pair["dat"]}
+    return {"cfg": pair["cfg"].replace(day + b",10:15:2",
+            chance.choice([b"31/12/1999,23:59:5", b"01/01/0001,00:00:0"])), "dat": pair["dat"]}
 
 
 def floats(r, chance):
@@ -144,7 +151,8 @@ def floats(r, chance):
 
 
 def exponents(r, chance):
-    made = [[MISSING if x is MISSING else "%.6E" % (x / 7) for x in c["samples"]] for c in r.channels]
+    made = [[MISSING if x is MISSING else "%.6E" % (x / 7) for x in c["samples"]]
+            for c in r.channels]
     numbers = [[MISSING if x is MISSING else float(x) for x in samples] for samples in made]
     return {"cfg": head(r, "ASCII", samples=numbers), "dat": text_rows(r, made)}
 
@@ -172,7 +180,9 @@ def single_of(r, kind, form, missing):
 
 MORE = {
     "utf-8": lambda r, c: named(r, c, "utf-8"),
-    "utf-16": lambda r, c: {e: x.decode().encode("utf-16") if e == "cfg" else x for e, x in named(r, c, "utf-8").items()},
+    "utf-16": lambda r,
+    c: {e: x.decode().encode("utf-16") if e == "cfg" else x for e,
+        x in named(r, c, "utf-8").items()},
     "gbk": lambda r, c: named(r, c, "gbk"),
     "contacts": lambda r, c: ascii_pair(of_size(r, c, 0, c.randrange(1, 40))),
     "channels": lambda r, c: binary_pair(of_size(r, c, c.randrange(1, 9), 0)),
@@ -196,17 +206,24 @@ MORE = {
     "semicolons": semicolons,
     "crcr": lambda r, c: {e: x.replace(b"\r\n", b"\r\r\n") for e, x in ascii_pair(r).items()},
     "cr": lambda r, c: {e: x.replace(b"\r\n", b"\r") for e, x in ascii_pair(r).items()},
-    "binary-1991": lambda r, c: {"cfg": head(r, "BINARY", "1991"), "dat": packed_rows(plain_stamps(r), "h", -32768)},
-    "months-1991": lambda r, c: {"cfg": head(r, "ASCII", "1991", order="mdy"), "dat": text_rows(plain_stamps(r), whole(r))},
-    "decimals-2013": lambda r, c: {"cfg": head(r, "ASCII", "2013", samples=parts(r, 4)), "dat": text_rows(r, parts(r, 4), "")},
+    "binary-1991": lambda r,
+    c: {"cfg": head(r, "BINARY", "1991"), "dat": packed_rows(plain_stamps(r), "h", -32768)},
+    "months-1991": lambda r,
+    c: {"cfg": head(r, "ASCII", "1991", order="mdy"), "dat": text_rows(plain_stamps(r), whole(r))},
+    "decimals-2013": lambda r,
+    c: {"cfg": head(r, "ASCII", "2013", samples=parts(r, 4)),
+        "dat": text_rows(r, parts(r, 4), "")},
     "single-float32": lambda r, c: single_of(r, "FLOAT32", "f", float("nan")),
     "single-binary32": lambda r, c: single_of(r, "BINARY32", "i", -(1 << 31)),
     "zip-stored": lambda r, c: {"zip": zipped(ascii_pair(r), zipfile.ZIP_STORED)},
     "cfz": lambda r, c: {"cfz": zipped(binary_pair(r), zipfile.ZIP_DEFLATED, "storm/")},
-    "zip-single": lambda r, c: {"zip": zipped(single_of(r, "BINARY", "h", -32768), zipfile.ZIP_DEFLATED)},
-    "dat-gz": lambda r, c: {"cfg": head(r, "BINARY"), "dat.gz": gzip.compress(packed_rows(r, "h", -32768))},
+    "zip-single": lambda r,
+    c: {"zip": zipped(single_of(r, "BINARY", "h", -32768), zipfile.ZIP_DEFLATED)},
+    "dat-gz": lambda r,
+    c: {"cfg": head(r, "BINARY"), "dat.gz": gzip.compress(packed_rows(r, "h", -32768))},
     "both-gz": lambda r, c: {e + ".gz": gzip.compress(x) for e, x in ascii_pair(r).items()},
-    "cff-gz": lambda r, c: {"cff.gz": gzip.compress(single_of(r, "FLOAT32", "f", float("inf"))["cff"])},
+    "cff-gz": lambda r,
+    c: {"cff.gz": gzip.compress(single_of(r, "FLOAT32", "f", float("inf"))["cff"])},
 }
 
 

@@ -1,8 +1,11 @@
-"""A plain reading of COMTRADE files, made from the layouts of the standards alone: what no command may
+"""A plain reading of COMTRADE files, made from the layouts of the standards alone: what no command
+may
 contradict in silence.
 
-A pair of 1999 (C37.111-1999, clauses 5 and 6) is read with the leniences of docs/file-format.md. Files
-of 1991 and 2013 and single files are read where they have their revision's lines, and nothing else.
+A pair of 1999 (C37.111-1999, clauses 5 and 6) is read with the leniences of docs/file-format.md.
+Files
+of 1991 and 2013 and single files are read where they have their revision's lines, and nothing
+else.
 Values are exact fractions, times are nanoseconds after the first row."""
 import datetime
 import math
@@ -30,7 +33,8 @@ def need(holds, what):
 
 
 def lines_of(text):
-    """The lines as lists of fields without the blanks around them; blank lines at the end are none."""
+    """The lines as lists of fields without the blanks around them; blank lines at the end are
+    none."""
     lines = [line[:-1] if line.endswith(b"\r") else line for line in text.split(b"\n")]
     while lines and not lines[-1].strip(b" \t"):
         lines.pop()
@@ -72,7 +76,8 @@ def bit(field):
 def instant(fields, revision, month_first):
     """Microseconds since 1970."""
     need(len(fields) == 2, "no instant")
-    date, time = (DATE_1991 if revision == 1991 else DATE).fullmatch(fields[0]), TIME.fullmatch(fields[1])
+    date, time = (DATE_1991 if revision == 1991
+                  else DATE).fullmatch(fields[0]), TIME.fullmatch(fields[1])
     need(date and time, "no instant")
     one, other, year = int(date[1]), int(date[2]), int(date[3])
     if len(date[3]) == 2:
@@ -84,7 +89,8 @@ def instant(fields, revision, month_first):
         raise NotPlain("no date")
     hour, minute, second = int(time[1]), int(time[2]), int(time[3])
     need(hour < 24 and minute < 60 and second < 60, "no time of a day")
-    return ((days * 24 + hour) * 60 + minute) * 60000000 + second * 1000000 + int((time[4] or b"").ljust(6, b"0"))
+    return ((days * 24 + hour) * 60 + minute) * 60000000 + second * 1000000 + int((time[4]
+            or b"").ljust(6, b"0"))
 
 
 class Head:
@@ -112,14 +118,17 @@ class Head:
             rate, last = self.next(2)
             self.rates.append((decimal(rate), whole(last, 0, TEN_DIGITS)))
             need(len(self.rates) < 2 or self.rates[-2][1] <= self.rates[-1][1], "rates go back")
-        self.first, self.trigger = (instant(self.next(), self.revision, month_first) for _ in range(2))
+        self.first, self.trigger = (instant(self.next(), self.revision, month_first)
+                                    for _ in range(2))
         self.kind = self.next(1)[0].upper()
         has_more = self.revision != 1991 or self.at < len(self.lines)
         self.timemult = decimal(self.next(1)[0]) if has_more else Fraction(1)
         if self.revision == 2013 or "lines-2013-dropped" in self.keys:
-            self.lines = self.lines[:max(self.at, len(self.lines) - 2)]  # (a note quotes both lines)
+            self.lines = self.lines[:max(self.at,
+                                         len(self.lines) - 2)]  # (a note quotes both lines)
         need(self.at == len(self.lines), "a line too many")
-        known = (b"ASCII", b"BINARY") + ((b"BINARY32", b"FLOAT32") if self.revision == 2013 else ())
+        known = (b"ASCII", b"BINARY") + ((b"BINARY32", b"FLOAT32") if self.revision == 2013
+                                         else ())
         need(self.kind in known, "another type of data")
 
     def next(self, count=None):
@@ -131,7 +140,8 @@ class Head:
 
     def channel(self, n):
         fields = self.next()
-        need(len(fields) in ((10, 13) if self.revision == 1991 else (13,)), "another number of fields")
+        need(len(fields) in ((10, 13) if self.revision == 1991 else (13,)),
+             "another number of fields")
         need(whole(fields[0], -BIG, BIG) == n, "another number of a channel")
         a, b = decimal(fields[5]), free(fields[6])
         free(fields[7])
@@ -144,7 +154,8 @@ class Head:
 
     def contact(self, n):
         fields = self.next()
-        need(len(fields) in ((3, 5) if self.revision == 1991 else (5,)), "another number of fields")
+        need(len(fields) in ((3, 5) if self.revision == 1991 else (5,)),
+             "another number of fields")
         need(whole(fields[0], -BIG, BIG) == n, "another number of a channel")
         if fields[-1]:
             bit(fields[-1])
@@ -152,7 +163,8 @@ class Head:
 
 
 class Record:
-    """A record: of each row its number, its stamp (or None), its samples (or None) and its bits."""
+    """A record: of each row its number, its stamp (or None), its samples (or None) and its
+    bits."""
 
     def __init__(self, head, dat):
         self.head, self.rows = head, []
@@ -160,13 +172,17 @@ class Record:
         if head.kind == b"ASCII":
             lines = lines_of(dat.split(b"\x1a")[0])
             need(len(lines) == last, "another number of rows")
-            # (99999 is the mark of a missing sample in a channel of whole numbers alone, before 2013)
+            # (99999 is the mark of a missing sample in a channel of whole numbers alone, before
+            # 2013)
             k = len(head.analog)
-            self.has_marks = [head.revision != 2013 and not any(re.search(rb"[.eE]", field) for fields in lines for field in fields[2 + c:3 + c])
+            self.has_marks = [head.revision != 2013
+                              and not any(re.search(rb"[.eE]", field) for fields in lines
+                                          for field in fields[2 + c:3 + c])
                               for c in range(k)]
             self.rows = [self.text_row(fields) for fields in lines]
         else:
-            form, self.missing = {b"BINARY": ("h", -32768), b"BINARY32": ("i", -(1 << 31)), b"FLOAT32": ("f", None)}[head.kind]
+            form, self.missing = {b"BINARY": ("h", -32768), b"BINARY32": ("i", -(1 << 31)),
+                                  b"FLOAT32": ("f", None)}[head.kind]
             words = (len(head.status) + 15) // 16
             row = struct.Struct("<II%d%s%dH" % (len(head.analog), form, words))
             need(len(dat) == last * row.size, "another size of the data")
@@ -177,7 +193,8 @@ class Record:
         need(len(fields) == 2 + k + m, "another number of fields in a row")
         stamp = whole(fields[1], 0, TEN_DIGITS) if fields[1] else None
         number = whole(fields[0], 0, TEN_DIGITS)
-        return number, stamp, [self.sample(x, c) for c, x in enumerate(fields[2:2 + k])], [bit(x) for x in fields[2 + k:]]
+        return number, stamp, [self.sample(x, c) for c, x in enumerate(fields[2:2 + k])], [bit(x)
+                for x in fields[2 + k:]]
 
     def sample(self, field, channel):
         if not field:
@@ -200,22 +217,27 @@ class Record:
         return row[0], stamp, samples, bits
 
     def by_rates(self, is_new):
-        """The times by the rates; over a border leads the interval of the old rate, or of the new one."""
+        """The times by the rates; over a border leads the interval of the old rate, or of the new
+        one."""
         times, begun, since = [], 0, 0
         for rate, last in self.head.rates:
-            times += [begun + math.floor((row - since) * 10 ** 9 / rate) for row in range(len(times), last)]
+            times += [begun + math.floor((row - since) * 10 ** 9 / rate)
+                      for row in range(len(times), last)]
             end = last - 1 if is_new else last
             begun, since = begun + math.floor((end - since) * 10 ** 9 / rate), end
         return times
 
     def ways(self):
-        """The times of the rows, in nanoseconds after the first: each way that the standard leaves open."""
+        """The times of the rows, in nanoseconds after the first: each way that the standard leaves
+        open."""
         head = self.head
         if head.nrates == 0 or any(rate <= 0 for rate, _ in head.rates):
-            return [[None if row[1] is None or head.timemult < 0 else math.floor(row[1] * head.timemult * 1000)
+            return [[None if row[1] is None or head.timemult < 0
+                     else math.floor(row[1] * head.timemult * 1000)
                      for row in self.rows]]
         ways = [self.by_rates(False)]
-        if len(head.rates) > 1 and all(last > before for (_, before), (_, last) in zip(head.rates, head.rates[1:])):
+        if len(head.rates) > 1 and all(last > before for (_, before),
+                                       (_, last) in zip(head.rates, head.rates[1:])):
             ways.append(self.by_rates(True))
         return ways
 
@@ -237,9 +259,12 @@ def sections(single):
 
 
 def read(files, month_first=False, keys=frozenset()):
-    """The record of a pair or a single file: its files by ending. Three keys of `import` allow what they
-    tell of: samples with a point or many digits, and a channel's range in another form. `padding` allows
-    what has no other meaning: NULs at the end, and blanks for the first digit of minutes and the like."""
+    """The record of a pair or a single file: its files by ending. Three keys of `import` allow
+    what they
+    tell of: samples with a point or many digits, and a channel's range in another form. `padding`
+    allows
+    what has no other meaning: NULs at the end, and blanks for the first digit of minutes and the
+    like."""
     cfg, dat = sections(files["cff"]) if "cff" in files else (files["cfg"], files["dat"])
     if "padding" in keys:
         cfg = re.sub(rb"(?<=[:/,]) (?=[0-9][:/.])", b"0", cfg.rstrip(b"\r\n\0"))

@@ -2,7 +2,7 @@
 import re
 
 from compare import FOUR, extreme, near, told
-from measures import rms
+from measures import only_cycle, rms
 from views import sized
 
 # The description of a picture has the peaks of so many channels.
@@ -10,7 +10,8 @@ MOST_PEAKS = 12
 
 
 def around(values, row, cycle):
-    """The rms values before and after a row: of the last but one cycle before it, or the last, and of the next one."""
+    """The rms values before and after a row: of the last but one cycle before it, or the last, and
+    of the next one."""
     before = after = None
     for end in (row - cycle, row):
         if end - cycle >= 0 and before is None:
@@ -21,8 +22,9 @@ def around(values, row, cycle):
 
 
 def with_levels(picture, show, rows, row):
-    """The rms values in `plot` around an inception or a trigger, where a cycle has a whole number of rows."""
-    cycle = show["rates"][0]["rate"] / show["frequency"] if len(show["rates"]) == 1 and show["frequency"] else 0.5
+    """The rms values in `plot` around an inception or a trigger, where a cycle has a whole number
+    of rows."""
+    cycle = only_cycle(show)
     if cycle != int(cycle) or cycle < 8:
         return
     for name, said in picture.rms:
@@ -31,14 +33,18 @@ def with_levels(picture, show, rows, row):
         named = [k for k, channel in enumerate(show["analog"]) if channel["id"].endswith(name)]
         if any(None in rows.values[k] for k in named):
             continue
-        sets = [[value for value in around(rows.values[k], row, int(cycle)) if value is not None] for k in named]
-        if not any(len(parts) == len(wanted) and all(near(sized(part, show["analog"][k]["unit"]), one, FOUR) for part, one in zip(parts, wanted))
+        sets = [[value for value in around(rows.values[k], row, int(cycle)) if value is not None]
+                for k in named]
+        if not any(len(parts) == len(wanted)
+                   and all(near(sized(part, show["analog"][k]["unit"]), one, FOUR) for part,
+                           one in zip(parts, wanted))
                    for k, wanted in zip(named, sets)):
             yield told("plot rms of %s" % name, said, sets)
 
 
 def with_bars(picture, show, rows):
-    """The bars of contacts in `plot`: each begins and ends where the contact changes, to a tenth of a pixel."""
+    """The bars of contacts in `plot`: each begins and ends where the contact changes, to a tenth
+    of a pixel."""
     bars = dict(picture.bars)
     if len(picture.times) < 2 or rows.millis != sorted(rows.millis):
         return

@@ -1,4 +1,5 @@
-"""Where records come from: by chance, in all forms, and those below folders. A record is its files by ending."""
+"""Where records come from: by chance, in all forms, and those below folders. A record is its files
+by ending."""
 import os
 import random
 import re
@@ -28,10 +29,12 @@ def below(top):
             stem, _, ending = name.lower().partition(".")
             if ending in ENDINGS:
                 yield os.path.join(at, name), {ending: content(at, name)}
-            data = [by_lower.get(stem + end) for end in (".dat", ".dat.gz") if stem + end in by_lower]
+            data = [by_lower.get(stem + end) for end in (".dat", ".dat.gz")
+                    if stem + end in by_lower]
             if ending in ("cfg", "cfg.gz") and data:
                 kept = data[0].lower().partition(".")[2]
-                yield os.path.join(at, name), {ending: content(at, name), kept: content(at, data[0])}
+                yield os.path.join(at, name), {ending: content(at, name),
+                                               kept: content(at, data[0])}
 
 
 def put(record, folder, name="in"):

@@ -1,4 +1,5 @@
-"""Reads the traces of a picture back out of its SVG: each sample of `csv` is a point of its channel's trace, and each point is a sample."""
+"""Reads the traces of a picture back out of its SVG: each sample of `csv` is a point of its
+channel's trace, and each point is a sample."""
 import bisect
 import re
 from html import unescape
@@ -7,10 +8,13 @@ from compare import told
 from views import line_through, sized
 
 FRAME = re.compile(r'<rect x="[0-9.]+" y="([0-9.]+)" width="[0-9.]+" height="([0-9.]+)" class="e"')
-TITLE = re.compile(r'<text x="76" y="[0-9.]+" class="f" fill="#55595f">([^<]*)</text>\n(?:<path class="g"|<g fill)')
-LEVEL = re.compile(r'M76 ([0-9.]+)H916"/><text x="70" y="[0-9.]+" text-anchor="end">([^<]*)</text>')
+TITLE = re.compile(r'<text x="76" y="[0-9.]+" class="f" fill="#55595f">([^<]*)</text>\n'
+                   r'(?:<path class="g"|<g fill)')
+LEVEL = re.compile(r'M76 ([0-9.]+)H916"/>'
+                   r'<text x="70" y="[0-9.]+" text-anchor="end">([^<]*)</text>')
 GROUP = re.compile(r'<g fill="none" stroke-width="1.2"[^>]*>\n(.*?)</g>', re.S)
-LEGEND = re.compile(r'<text x="948" y="[0-9.]+">([^<]*)</text>\n<text x="948" y="[0-9.]+" class="f" font-size="10.5"')
+LEGEND = re.compile(r'<text x="948" y="[0-9.]+">([^<]*)</text>\n'
+                    r'<text x="948" y="[0-9.]+" class="f" font-size="10.5"')
 
 
 def points(path):
@@ -42,7 +46,8 @@ class Panel:
             self.beside = 0.07 + 0.12 * height / span
         body = GROUP.search(text)
         # (a trace of few rows has dots besides, in a path with its own width)
-        paths = re.findall(r'<path class="[a-z]" stroke="[^"]*" d="([^"]*)"', body[1]) if body else []
+        paths = re.findall(r'<path class="[a-z]" stroke="[^"]*" d="([^"]*)"',
+                           body[1]) if body else []
         self.traces = [sorted(points(path)) for path in paths]
         self.top, self.height = top, height
 
@@ -56,8 +61,10 @@ def panels(svg):
         if not title:
             continue
         until = svg.find('<text x="76"', begin)
-        names = [unescape(name) for name in LEGEND.findall(svg[begin:until if until > 0 else len(svg)])]
-        yield Panel(text[title[-1].start():], title[-1][1], float(frame[1]), float(frame[2])), names
+        names = [unescape(name)
+                 for name in LEGEND.findall(svg[begin:until if until > 0 else len(svg)])]
+        yield Panel(text[title[-1].start():], title[-1][1], float(frame[1]),
+                    float(frame[2])), names
 
 
 def wanted_of(show):
@@ -88,7 +95,8 @@ def with_traces(svg, show, rows):
         return
     scale = {"s": 1e3, "ms": 1.0, "µs": 1e-3}[unit[1]]
     at = line_through([(float(label) * scale, float(x)) for x, label in axis])
-    beside_x = 0.07 + 0.12 * 840 / (float(axis[-1][0]) - float(axis[0][0])) + (0.5 if rows.count > 800 else 0)
+    beside_x = 0.07 + 0.12 * 840 / (float(axis[-1][0]) - float(axis[0][0])) + (0.5
+            if rows.count > 800 else 0)
     wanted, seen = wanted_of(show), 0
     for panel, names in panels(svg):
         if not panel.traces and svg.count(">no readings<") >= len(names):
@@ -98,11 +106,13 @@ def with_traces(svg, show, rows):
         for name, trace in zip(names, panel.traces):
             seen += 1
             # (of a long name, the last piece stands there)
-            its = sorted({k for whole, numbers in wanted.items() if whole.endswith(name) for k in numbers})
+            its = sorted({k for whole, numbers in wanted.items() if whole.endswith(name)
+                          for k in numbers})
             if not its:
                 yield told("plot trace", name, sorted(wanted))
             elif panel.is_scaled:
-                yield from with_trace(panel, name, trace, [show["analog"][k] for k in its], [rows.values[k] for k in its],
+                yield from with_trace(panel, name, trace, [show["analog"][k] for k in its],
+                                      [rows.values[k] for k in its],
                                       [at(ms) for ms in rows.millis], beside_x)
     if seen != len(rows.values):
         yield told("plot traces", seen, len(rows.values))
@@ -116,8 +126,10 @@ def with_trace(panel, name, trace, channels, series, xs, beside_x):
             factor = 1 / sized("1 " + panel.unit, channel["unit"])
         except ValueError:
             return
-        dots = [(x, panel.place(value * factor)) for x, value in zip(xs, values) if value is not None]
-        off = off_trace(trace, dots, beside_x, panel.beside) or off_trace(sorted(dots), trace, beside_x, panel.beside)
+        dots = [(x, panel.place(value * factor)) for x, value in zip(xs, values)
+                if value is not None]
+        off = off_trace(trace, dots, beside_x, panel.beside) or off_trace(sorted(dots), trace,
+                                                                          beside_x, panel.beside)
         if off is None:
             return
     yield "plot trace of %s: %r isn't on the other" % (name, off)

@@ -14,9 +14,11 @@ from html import unescape
 
 @functools.lru_cache(maxsize=40)
 def run(program, *words):
-    """What a command prints: status, standard output, standard error. Asked again with the same words, it isn't run again."""
+    """What a command prints: status, standard output, standard error. Asked again with the same
+    words, it isn't run again."""
     done = subprocess.run([program, *words], capture_output=True, timeout=1200)
-    return done.returncode, done.stdout.decode("utf-8", "replace"), done.stderr.decode("utf-8", "replace")
+    return done.returncode, done.stdout.decode("utf-8", "replace"), done.stderr.decode("utf-8",
+                                                                                       "replace")
 
 
 def number(text):
@@ -45,15 +47,18 @@ def as_json(program, *words):
     return json.loads(out)
 
 
-PREFIX = {"E": 1e18, "P": 1e15, "T": 1e12, "G": 1e9, "M": 1e6, "k": 1e3, "": 1.0, "m": 1e-3, "µ": 1e-6, "u": 1e-6, "n": 1e-9, "p": 1e-12}
+PREFIX = {"E": 1e18, "P": 1e15, "T": 1e12, "G": 1e9, "M": 1e6, "k": 1e3, "": 1.0, "m": 1e-3,
+          "µ": 1e-6, "u": 1e-6, "n": 1e-9, "p": 1e-12}
 
 
 def sized(text, unit):
-    """The number in `-6.218 kA` in this unit; the prefix of both is told by the letters before the same word."""
+    """The number in `-6.218 kA` in this unit; the prefix of both is told by the letters before the
+    same word."""
     value, _, its = text.partition(" ")
     for there, by in PREFIX.items():
         for here, into in PREFIX.items():
-            if its[len(there):] and its.startswith(there) and unit.startswith(here) and its[len(there):] == unit[len(here):]:
+            is_same = its[len(there):] == unit[len(here):] != ""
+            if is_same and its.startswith(there) and unit.startswith(here):
                 return float(value) * by / into
     raise ValueError("%r is no number of %s" % (text, unit))
 
@@ -64,6 +69,13 @@ def line_through(known):
     return lambda x: v1 + (x - x1) * (v2 - v1) / (x2 - x1)
 
 
+# A name in the legend and its rms values; the name of a contact and its bars.
+LEGEND = re.compile(r'<text x="948" y="[0-9.]+">([^<]*?)(?: \([A-Za-z0-9]+\))?</text>\n'
+                    r'<text [^>]*>peak [^<]*?, rms ([^<]*)<')
+BARS = re.compile(r'<text x="948" y="[0-9.]+">([^<]*)</text>\n(?:<path class="e"[^>]*/>\n)?'
+                  r'((?:<path class="[ko]"[^>]*/>\n)*)')
+
+
 class Picture:
     """The numbers of `plot`."""
 
@@ -71,16 +83,18 @@ class Picture:
         self.about = unescape(re.search(r"<desc[^>]*>(.*?)</desc>", text, re.S)[1])
         self.trigger = re.match(r"Trigger (\S+ \S+)\. ", self.about)
         self.peaks = self.about.partition("Peaks:")[2]
-        legends = re.findall(r'<text x="948" y="[0-9.]+">([^<]*?)(?: \([A-Za-z0-9]+\))?</text>\n<text [^>]*>peak [^<]*?, rms ([^<]*)<', text)
+        legends = LEGEND.findall(text)
         self.rms = [(unescape(name), said) for name, said in legends]
-        ends = re.findall(r'<text x="([0-9.]+)" y="62" text-anchor="middle">(-?[0-9.]+)</text>', text)
+        ends = re.findall(r'<text x="([0-9.]+)" y="62" text-anchor="middle">(-?[0-9.]+)</text>',
+                          text)
         unit = re.search(r'y="62">([^<]*) since the trigger<', text)
         scale = {"s": 1e3, "ms": 1.0, "µs": 1e-3}[unit[1]] if unit else 1.0
         self.times = [(float(x), float(label) * scale) for x, label in ends]
         self.bars = []
-        for name, drawn in re.findall(r'<text x="948" y="[0-9.]+">([^<]*)</text>\n(?:<path class="e"[^>]*/>\n)?((?:<path class="[ko]"[^>]*/>\n)*)', text):
+        for name, drawn in BARS.findall(text):
             spans = re.findall(r"M([0-9.]+) [0-9.]+h([0-9.]+)v", drawn)
-            self.bars.append((unescape(name), [(float(x), float(x) + float(width)) for x, width in spans]))
+            self.bars.append((unescape(name),
+                              [(float(x), float(x) + float(width)) for x, width in spans]))
 
     def time_at(self, x):
         """The time of a place, by the labels of the axis."""
@@ -107,7 +121,8 @@ class Page:
             raw = base64.b64decode(blocks["s%d" % k])
             form, missing = ("i", -(1 << 31)) if channel["wide"] else ("h", -(1 << 15))
             samples = struct.unpack("<%d%s" % (count, form), raw)
-            self.values.append([None if x == missing else channel["a"] * x + channel["b"] for x in samples])
+            self.values.append([None if x == missing else channel["a"] * x + channel["b"]
+                                for x in samples])
         self.bits = []
         for k in range(len(self.head["status"])):
             raw = base64.b64decode(blocks["d%d" % k])

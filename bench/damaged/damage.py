@@ -1,8 +1,11 @@
 """Ways in which files are damaged: bytes, lines, fields, and what they are packed in."""
 
-HUGE = [b"999999999999", b"1E99", b"1E-99", b"9" * 40, b"-1", b"4294967295", b"4294967296", b"2147483648", b"-2147483649",
-        b"65536", b"32768", b"99999", b"100000", b"0", b"0.5", b"", b"x", b"NaN", b"inf", b"00/00/0000", b"29/02/2023",
-        b"23:59:60", b"24:00:00", b"01/01/9999", b"999", b"000000000000000000000001", b"1e3", b"0x10", b"1_000", b"\xff", b"+-1", b"1."]
+HUGE = [b"999999999999", b"1E99", b"1E-99", b"9" * 40, b"-1", b"4294967295", b"4294967296",
+        b"2147483648", b"-2147483649",
+        b"65536", b"32768", b"99999", b"100000", b"0", b"0.5", b"", b"x", b"NaN", b"inf",
+        b"00/00/0000", b"29/02/2023",
+        b"23:59:60", b"24:00:00", b"01/01/9999", b"999", b"000000000000000000000001", b"1e3",
+        b"0x10", b"1_000", b"\xff", b"+-1", b"1."]
 
 
 def flipped(chance, text):
@@ -12,7 +15,8 @@ def flipped(chance, text):
 
 def changed(chance, text):
     at = chance.randrange(len(text))
-    return text[:at] + bytes([chance.choice([chance.randrange(256), 0, 10, 13, 26, 32, 44, 48, 57, 255])]) + text[at + 1:]
+    return text[:at] + bytes([chance.choice([chance.randrange(256), 0, 10, 13, 26, 32, 44, 48, 57,
+                                             255])]) + text[at + 1:]
 
 
 def cut(chance, text):
@@ -36,7 +40,8 @@ def doubled(chance, text):
 def filled(chance, text):
     """A block of one byte, as of a sector that was lost."""
     at, size = chance.randrange(len(text)), chance.choice([1, 4, 30, 512])
-    return text[:at] + bytes([chance.choice([0, 255, 32])]) * len(text[at:at + size]) + text[at + size:]
+    return text[:at] + bytes([chance.choice([0, 255,
+                                             32])]) * len(text[at:at + size]) + text[at + size:]
 
 
 def of_parts(mark):
@@ -74,8 +79,10 @@ def digit_changed(chance, text):
 
 
 WAYS = {
-    "bit flipped": flipped, "byte changed": changed, "cut at the end": cut, "cut in front": cut_in_front, "bytes dropped": dropped,
-    "bytes doubled": doubled, "block filled": filled, "lines": of_parts(b"\n"), "fields": of_parts(b","), "field replaced": made_huge,
+    "bit flipped": flipped, "byte changed": changed, "cut at the end": cut,
+    "cut in front": cut_in_front, "bytes dropped": dropped,
+    "bytes doubled": doubled, "block filled": filled, "lines": of_parts(b"\n"),
+    "fields": of_parts(b","), "field replaced": made_huge,
     "digit changed": digit_changed,
 }
 
@@ -85,7 +92,8 @@ def is_packed(files):
 
 
 def damaged(chance, files):
-    """The files with one to three damages, and what these are. Beside a packed file, no other is damaged."""
+    """The files with one to three damages, and what these are. Beside a packed file, no other is
+    damaged."""
     files, told = dict(files), []
     endings = [ending for ending in sorted(files) if is_packed([ending])] or sorted(files)
     for _ in range(chance.choice([1, 1, 1, 2, 3])):

@@ -7,8 +7,10 @@ from against import keys_of, read_plainly, with_model, QUIET, UNTOLD
 from views import Rows
 
 # Views by chance: each reads the same file as csv, so it is refused if csv is.
-VIEWS = (["show"], ["show", "--json"], ["events"], ["events", "--json"], ["list"], ["plot"], ["plot", "--whole", "--all"], ["page"],
-         ["measure"], ["measure", "--at=row 30"], ["measure", "--json", "--from=row 1", "--to=row 70"], ["csv", "--primary"],
+VIEWS = (["show"], ["show", "--json"], ["events"], ["events", "--json"], ["list"], ["plot"],
+         ["plot", "--whole", "--all"], ["page"],
+         ["measure"], ["measure", "--at=row 30"],
+         ["measure", "--json", "--from=row 1", "--to=row 70"], ["csv", "--primary"],
          ["csv", "--from=0", "--to=5"], ["show", "--encoding=gbk"], ["show", "--changed"])
 # These may refuse a record that csv reads: without times, rate, channels, or rows of this part.
 CHOOSY = ("measure", "csv", "show --changed", "plot")
@@ -19,7 +21,8 @@ class Answer:
 
     def __init__(self, words, limit):
         before = resource.getrusage(resource.RUSAGE_CHILDREN)
-        child = subprocess.Popen(words, stdout=subprocess.PIPE, stderr=subprocess.PIPE, stdin=subprocess.DEVNULL)
+        child = subprocess.Popen(words, stdout=subprocess.PIPE, stderr=subprocess.PIPE,
+                                 stdin=subprocess.DEVNULL)
         self.is_late = False
         try:
             self.out, said = child.communicate(timeout=limit)
@@ -52,11 +55,13 @@ class Judge:
         return Answer([self.comtrade, *words], self.limit)
 
     def read(self, answer, files, is_packed, plain):
-        """What csv says of the files, against the model; packed files must have the undamaged content, or be refused."""
+        """What csv says of the files, against the model; packed files must have the undamaged
+        content, or be refused."""
         if answer.status == 1:
             if answer.out:
                 yield "csv: status 1, with output"
-            if not is_packed and any(one.head.revision == 1999 for one in read_plainly(files)) and "cff" not in files:
+            if not is_packed and any(one.head.revision == 1999
+                                     for one in read_plainly(files)) and "cff" not in files:
                 yield "csv refuses plain files: " + answer.said.strip()[-200:]
             return
         keys = keys_of(answer.said)
@@ -87,9 +92,11 @@ class Judge:
         """`check` finds no error if and only if the files are a plain pair of 1999."""
         answer = self.run("check", *names)
         fault = answer.fault()
-        is_plain = "cff" not in files and any(one.head.revision == 1999 for one in read_plainly(files))
+        is_plain = "cff" not in files and any(one.head.revision == 1999
+                                              for one in read_plainly(files))
         if fault or (answer.status == 0) != is_plain:
-            yield "check: %s, status %d, plain %s: %s" % (fault, answer.status, is_plain, answer.out[:300])
+            yield "check: %s, status %d, plain %s: %s" % (fault, answer.status, is_plain,
+                                                          answer.out[:300])
 
     def viewed(self, names, words, csv):
         """A view by chance."""
@@ -97,8 +104,10 @@ class Judge:
         fault = answer.fault()
         if fault:
             yield "%s: %s" % (" ".join(words), fault)
-        elif answer.status != csv.status and not (csv.status == 0 and " ".join(words).startswith(CHOOSY)):
-            yield "csv: status %d, %s: status %d: %s" % (csv.status, " ".join(words), answer.status, answer.said.strip()[-200:])
+        elif answer.status != csv.status and not (csv.status == 0
+                                                  and " ".join(words).startswith(CHOOSY)):
+            yield "csv: status %d, %s: status %d: %s" % (csv.status, " ".join(words),
+                                                         answer.status, answer.said.strip()[-200:])
 
     def imported(self, names, csv):
         """What import writes is faultless by check, and it tells the same repairs as csv."""
@@ -107,7 +116,8 @@ class Judge:
         fault = answer.fault()
         there = [os.path.exists(new + ending) for ending in (".cfg", ".dat")]
         if fault or answer.status != csv.status or there != [answer.status == 0] * 2:
-            yield "import: %s, status %d, csv %d, files %s" % (fault, answer.status, csv.status, there)
+            yield "import: %s, status %d, csv %d, files %s" % (fault, answer.status, csv.status,
+                                                               there)
         elif answer.status == 0:
             told = keys_of(answer.out.decode("utf-8", "replace")) ^ keys_of(csv.said)
             if told - UNTOLD:

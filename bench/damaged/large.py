@@ -26,7 +26,8 @@ def long(chance):
 FORMS = (
     lambda r: {"cfg": head(r, "ASCII"), "dat": text_rows(r, whole(r))},
     lambda r: {"cfg": head(r, "BINARY"), "dat": packed_rows(r, "h", -32768)},
-    lambda r: {"cff": single(head(r, "FLOAT32", "2013"), "FLOAT32", packed_rows(r, "f", float("nan")))},
+    lambda r: {"cff": single(head(r, "FLOAT32", "2013"), "FLOAT32",
+                             packed_rows(r, "f", float("nan")))},
     lambda r: {"cfg": head(r, "ASCII", "1991"), "dat": text_rows(r, whole(r))},
 )
 
@@ -44,7 +45,8 @@ def times_of(judge, names, folder):
 
 
 def large(bench, folder):
-    judge = Judge(os.path.abspath(bench.asked.comtrade), folder, bench.asked.limit * 10, bench.seen)
+    judge = Judge(os.path.abspath(bench.asked.comtrade), folder, bench.asked.limit * 10,
+                  bench.seen)
     for n in range(-(-bench.asked.large // 5)):
         chance = random.Random(bench.asked.seed * 7919 + n)
         record = FORMS[n % len(FORMS)](long(chance))
@@ -53,7 +55,8 @@ def large(bench, folder):
             spoiled, ways = damaged(chance, record)
             name = "large %d-%d: %s" % (n, k, "; ".join(ways))
             bench.seen["damaged of 20,000 rows"] += 1
-            for (_, before), (words, answer) in zip(good, times_of(judge, put(spoiled, folder), folder)):
+            for (_, before), (words, answer) in zip(good,
+                                                    times_of(judge, put(spoiled, folder), folder)):
                 if answer.fault():
                     bench.tell(name, spoiled, "%s: %s" % (words[0], answer.fault()))
                 bench.timed(judge, words, answer, before.took, name, spoiled)

@@ -3,12 +3,16 @@
 
     bench/inflate/run.py COMTRADE [--count N] [--seed S] [--quick]
 
-Each of N records (1,000) has BINARY data, whose samples are texts, runs, noise or repetitions. Its data are compressed as one stream of
-DEFLATE: by zlib at all levels, strategies and window sizes, with flushes, and by streams.py in blocks that zlib never makes. The stream stands
+Each of N records (1,000) has BINARY data, whose samples are texts, runs, noise or repetitions. Its
+data are compressed as one stream of
+DEFLATE: by zlib at all levels, strategies and window sizes, with flushes, and by streams.py in
+blocks that zlib never makes. The stream stands
 in a gzip file, a .zip or a .cfz. `csv` must print of it what it prints of the plain record.
 
-Each stream is also damaged. Once it keeps its checksum: `csv` must refuse it if zlib does. Once it gets the checksum of what zlib still makes
-of it: `csv` must print what it prints of these bytes as a plain file. --quick makes 40 records. The status is 1 if anything is wrong."""
+Each stream is also damaged. Once it keeps its checksum: `csv` must refuse it if zlib does. Once it
+gets the checksum of what zlib still makes
+of it: `csv` must print what it prints of these bytes as a plain file. --quick makes 40 records.
+The status is 1 if anything is wrong."""
 import argparse
 import collections
 import os
@@ -38,12 +42,14 @@ def samples(rng):
         words = [rng.randbytes(rng.randrange(1, 12)) for _ in range(50)]
         return b"".join(rng.choice(words) for _ in range(size // 5))
     if kind == 3:
-        return "".join(f"{i},{i * 250},{rng.randrange(-99, 99)},{i % 7}\r\n" for i in range(size // 12)).encode()
+        return "".join(f"{i},{i * 250},{rng.randrange(-99, 99)},{i % 7}\r\n"
+                       for i in range(size // 12)).encode()
     if kind == 4:
         return bytes(rng.randrange(3) for _ in range(size))
     if kind == 5:
         piece = rng.randbytes(rng.randrange(1, 300))
-        return (piece + bytes(32768 - len(piece) - rng.randrange(3)) + piece)[: size + 33000 * (size > 1000)]
+        far = piece + bytes(32768 - len(piece) - rng.randrange(3)) + piece
+        return far[: size + 33000 * (size > 1000)]
     return bytes(rng.choices(range(256), weights=[2 ** -min(i, 40) for i in range(256)], k=size))
 
 
@@ -89,7 +95,8 @@ def damaged(rng, stream):
 
 class Judge:
     def __init__(self, program, folder):
-        self.program, self.folder, self.seen, self.wrong = os.path.abspath(program), folder, collections.Counter(), 0
+        self.program, self.folder = os.path.abspath(program), folder
+        self.seen, self.wrong = collections.Counter(), 0
 
     def csv(self, files, name):
         """What csv prints of files of these names."""
@@ -98,7 +105,8 @@ class Judge:
         for file, content in files.items():
             with open(os.path.join(self.folder, file), "wb") as out:
                 out.write(content)
-        done = subprocess.run([self.program, "csv", os.path.join(self.folder, name)], capture_output=True, timeout=600)
+        done = subprocess.run([self.program, "csv", os.path.join(self.folder, name)],
+                              capture_output=True, timeout=600)
         return done.returncode, done.stdout
 
     def tell(self, what):
@@ -134,7 +142,8 @@ class Judge:
         self.seen["damaged, zlib reads" if out is not None else "damaged, zlib refuses"] += 1
         status, got = self.packed(rng, cfg, bad, data)
         if out != data and (status != 1 or got) or out == data and (status, got) != want:
-            self.tell(f"{name}: damaged: status {status}, zlib {'refuses' if out is None else 'reads'}")
+            zlib_s = "refuses" if out is None else "reads"
+            self.tell(f"{name}: damaged: status {status}, zlib {zlib_s}")
         if out is not None and out != data:
             cfg = cfg_of(len(out) // ROW)
             plain = self.csv({"in.cfg": cfg, "in.dat": out}, "in.cfg")
@@ -144,7 +153,8 @@ class Judge:
 
 
 def main():
-    parser = argparse.ArgumentParser(description=__doc__, formatter_class=argparse.RawDescriptionHelpFormatter)
+    parser = argparse.ArgumentParser(description=__doc__,
+                                     formatter_class=argparse.RawDescriptionHelpFormatter)
     parser.add_argument("comtrade")
     parser.add_argument("--count", type=int, default=1000)
     parser.add_argument("--seed", type=int, default=1)
@@ -155,7 +165,8 @@ def main():
         judge = Judge(asked.comtrade, folder)
         for n in range(count):
             judge.one(random.Random(asked.seed * 1000003 + n), f"stream {n}")
-    print(f"{count} streams: " + ", ".join(f"{k} {what}" for what, k in sorted(judge.seen.items())))
+    print(f"{count} streams: " + ", ".join(f"{k} {what}" for what,
+                                           k in sorted(judge.seen.items())))
     print(f"{judge.wrong} wrong")
     return judge.wrong != 0
 
