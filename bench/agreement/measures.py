@@ -1,4 +1,5 @@
 """Compares what `measure` prints with values computed from the rows of `csv`."""
+import cmath
 import math
 
 from compare import MICRO, near, told
@@ -21,12 +22,19 @@ def only_cycle(show):
     return show["rates"][0]["rate"] / show["frequency"]
 
 
+def fundamental(values):
+    """The phasor of the fundamental of a cycle, by its rms value."""
+    size = len(values)
+    terms = [v * cmath.exp(-2j * math.pi * i / size) for i, v in enumerate(values)]
+    whole = complex(math.fsum(x.real for x in terms), math.fsum(x.imag for x in terms))
+    return whole * math.sqrt(2) / size
+
+
 def with_measure(made, show, rows):
-    """What `measure --at` prints, over the rows that it names; rms values where a cycle has a
-    whole number of rows."""
+    """What `measure --at` prints, over the rows that it names; rms values and phasors where a
+    cycle has a whole number of rows."""
     first, last = made["first_row"] - 1, made["last_row"]
-    size = rows_of_cycle(show, last)
-    phasors = {}
+    size, phasors = rows_of_cycle(show, last), {}
     for k, channel in enumerate(made["channels"]):
         values = rows.values[k][first:last]
         name = "%s, rows %d to %d" % (channel["id"], first + 1, last)
@@ -34,8 +42,6 @@ def with_measure(made, show, rows):
             if channel["rms"] is not None:
                 yield told("measure rms of " + name, channel["rms"], None)
             continue
-        if size == len(values) and not near(channel["rms"], rms(values), 1e-12, 1e-300):
-            yield told("measure rms of " + name, channel["rms"], rms(values))
         peak = max(values, key=abs)
         if not near(abs(channel["peak"]), abs(peak), 1e-12):
             yield told("measure peak of " + name, channel["peak"], peak)
@@ -43,25 +49,25 @@ def with_measure(made, show, rows):
               if near(v, channel["peak"], 1e-12)]
         if not any(near(channel["peak_ms"], t, 0, MICRO) for t in at):
             yield told("measure peak_ms of " + name, channel["peak_ms"], at)
-        if size == len(values) and made["cycles"] == 1:
-            turn = [2 * math.pi * i / size for i in range(len(values))]
-            re_part = math.fsum(v * math.cos(t) for v,
-                                t in zip(values, turn)) * math.sqrt(2) / size
-            im_part = -math.fsum(v * math.sin(t) for v,
-                                 t in zip(values, turn)) * math.sqrt(2) / size
-            phasors[channel["n"]] = complex(re_part, im_part)
-            beside = 1e-9 * max(abs(v) for v in values)
-            if not near(channel["magnitude"], abs(phasors[channel["n"]]), 1e-9, beside):
-                yield told("measure magnitude of " + name, channel["magnitude"],
-                           abs(phasors[channel["n"]]))
-    angles = {channel["n"]: channel["angle"] for channel in made["channels"]}
+        if size != len(values) or made["cycles"] != 1:
+            continue
+        if not near(channel["rms"], rms(values), 1e-12, 1e-300):
+            yield told("measure rms of " + name, channel["rms"], rms(values))
+        phasors[channel["n"]] = phasor = fundamental(values)
+        if not near(channel["magnitude"], abs(phasor), 1e-9, 1e-9 * abs(peak)):
+            yield told("measure magnitude of " + name, channel["magnitude"], abs(phasor))
+    yield from with_angles(made, phasors)
+
+
+def with_angles(made, phasors):
+    """The angles, relative to that of the reference."""
     base = phasors.get(made["reference"])
-    for n, phasor in phasors.items():
-        if base and angles[n] is not None and abs(phasor) > 1e-3:
-            off = (math.degrees(math.atan2((phasor / base).imag,
-                                           (phasor / base).real)) - angles[n] + 180) % 360 - 180
+    for channel in made["channels"]:
+        phasor, angle = phasors.get(channel["n"]), channel["angle"]
+        if base and phasor and angle is not None and abs(phasor) > 1e-3:
+            off = (math.degrees(cmath.phase(phasor / base)) - angle + 180) % 360 - 180
             if abs(off) > 1e-5:
-                yield told("measure angle of channel %d" % n, angles[n], off)
+                yield told("measure angle of channel %d" % channel["n"], angle, off)
 
 
 def with_currents(made, show, rows):

@@ -95,8 +95,10 @@ def with_traces(svg, show, rows):
         return
     scale = {"s": 1e3, "ms": 1.0, "µs": 1e-3}[unit[1]]
     at = line_through([(float(label) * scale, float(x)) for x, label in axis])
-    beside_x = 0.07 + 0.12 * 840 / (float(axis[-1][0]) - float(axis[0][0])) + (0.5
-            if rows.count > 800 else 0)
+    xs = [at(ms) for ms in rows.millis]
+    beside_x = 0.07 + 0.12 * 840 / (float(axis[-1][0]) - float(axis[0][0]))
+    if any(after - before < 1 for before, after in zip(xs, xs[1:])):
+        beside_x += 0.5  # (rows of the same half pixel are drawn as one stroke)
     wanted, seen = wanted_of(show), 0
     for panel, names in panels(svg):
         if not panel.traces and svg.count(">no readings<") >= len(names):
@@ -113,7 +115,7 @@ def with_traces(svg, show, rows):
             elif panel.is_scaled:
                 yield from with_trace(panel, name, trace, [show["analog"][k] for k in its],
                                       [rows.values[k] for k in its],
-                                      [at(ms) for ms in rows.millis], beside_x)
+                                      xs, beside_x)
     if seen != len(rows.values):
         yield told("plot traces", seen, len(rows.values))
 
