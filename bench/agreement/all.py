@@ -153,6 +153,9 @@ def disagreements(comtrade, record, names, chance, folder, seen):
                                                              sorted(csv.keys))
     show = as_json(comtrade, "show", "--json", *names)
     rows = Rows(csv.out, len(show["analog"]))
+    for channel, name in zip(show["analog"] + show["status"], rows.names):
+        if channel["id"].endswith("..."):  # (show cuts long names)
+            channel["id"] = name.rpartition(" [")[0] or name
     seen["with notes"] += bool(csv.keys)
     yield from with_plain(record, rows, csv, seen)
     yield from with_notes(comtrade, names, csv)

@@ -170,7 +170,8 @@ class Record:
         self.head, self.rows = head, []
         last = head.rates[-1][1]
         if head.kind == b"ASCII":
-            lines = lines_of(dat.split(b"\x1a")[0])
+            text = dat.rstrip(b"\r\n\0") if "padding" in head.keys else dat
+            lines = lines_of(text.split(b"\x1a")[0])
             need(len(lines) == last, "another number of rows")
             # (99999 is the mark of a missing sample in a channel of whole numbers alone, before
             # 2013)
