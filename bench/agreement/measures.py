@@ -22,6 +22,11 @@ def only_cycle(show):
     return show["rates"][0]["rate"] / show["frequency"]
 
 
+def beside_of(channel, values):
+    """By how much a value differs that is computed with 53 bits from a, x and b."""
+    return 1e-14 * (abs(channel["b"]) + max([abs(v) for v in values if v is not None], default=0))
+
+
 def fundamental(values):
     """The phasor of the fundamental of a cycle, by its rms value."""
     size = len(values)
@@ -42,16 +47,16 @@ def with_measure(made, show, rows):
             if channel["rms"] is not None:
                 yield told("measure rms of " + name, channel["rms"], None)
             continue
-        peak = max(values, key=abs)
-        if not near(abs(channel["peak"]), abs(peak), 1e-12):
+        peak, beside = max(values, key=abs), beside_of(show["analog"][k], rows.values[k])
+        if not near(abs(channel["peak"]), abs(peak), 1e-12, beside):
             yield told("measure peak of " + name, channel["peak"], peak)
         at = [rows.millis[first + i] for i, v in enumerate(values)
-              if near(v, channel["peak"], 1e-12)]
+              if near(v, channel["peak"], 1e-12, beside)]
         if not any(near(channel["peak_ms"], t, 0, MICRO) for t in at):
             yield told("measure peak_ms of " + name, channel["peak_ms"], at)
         if size != len(values) or made["cycles"] != 1:
             continue
-        if not near(channel["rms"], rms(values), 1e-12, 1e-300):
+        if not near(channel["rms"], rms(values), 1e-12, beside):
             yield told("measure rms of " + name, channel["rms"], rms(values))
         phasors[channel["n"]] = phasor = fundamental(values)
         if not near(channel["magnitude"], abs(phasor), 1e-9, 1e-9 * abs(peak)):
