@@ -127,12 +127,13 @@ def of_times(comtrade, names, show, rows, csv, chance, folder):
     status, out, _ = run(comtrade, "measure", "--json", *names)
     if status == 0:
         yield from measures.with_currents(json.loads(out), show, rows)
-    measured = []
+    page = Page(run(comtrade, "page", *names)[1])
+    measured, skews = [], [float(channel["skew"]) for channel in page.head["analog"]]
     for at in moments(rows, chance):
         status, out, _ = run(comtrade, "measure", "--json", "--at=%.6f" % at, *names)
         if status == 0:
             measured.append(json.loads(out))
-            yield from measures.with_measure(measured[-1], show, rows)
+            yield from measures.with_measure(measured[-1], show, rows, skews)
     yield from with_picture(comtrade, names, show, rows, csv)
     yield from with_page(comtrade, names, show, rows, csv, measured, folder)
 
@@ -146,7 +147,9 @@ def disagreements(comtrade, record, names, chance, folder, seen):
         return
     status, out, said = run(comtrade, "import", *names, os.path.join(folder, "new"))
     if status != 0:
-        yield "csv: status 0, import: status %d: %s" % (status, said.strip()[-200:])
+        seen["not imported"] += 1
+        if "`comtrade import` cannot read it" not in csv.said:
+            yield "csv: status 0, import: status %d: %s" % (status, said.strip()[-200:])
         return
     if keys_of(out) - UNTOLD != csv.keys - UNTOLD:
         yield "import tells other notes than csv: %s, %s" % (sorted(keys_of(out)),

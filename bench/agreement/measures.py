@@ -35,7 +35,7 @@ def fundamental(values):
     return whole * math.sqrt(2) / size
 
 
-def with_measure(made, show, rows):
+def with_measure(made, show, rows, skews):
     """What `measure --at` prints, over the rows that it names; rms values and phasors where a
     cycle has a whole number of rows."""
     first, last = made["first_row"] - 1, made["last_row"]
@@ -58,7 +58,9 @@ def with_measure(made, show, rows):
             continue
         if not near(channel["rms"], rms(values), 1e-12, beside):
             yield told("measure rms of " + name, channel["rms"], rms(values))
-        phasors[channel["n"]] = phasor = fundamental(values)
+        phasor = fundamental(values)
+        turn = -2j * math.pi * show["frequency"] * skews[k] * 1e-6
+        phasors[channel["n"]] = phasor * cmath.exp(turn)
         if not near(channel["magnitude"], abs(phasor), 1e-9, 1e-9 * abs(peak)):
             yield told("measure magnitude of " + name, channel["magnitude"], abs(phasor))
     yield from with_angles(made, phasors)
