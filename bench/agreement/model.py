@@ -124,8 +124,9 @@ class Head:
         has_more = self.revision != 1991 or self.at < len(self.lines)
         self.timemult = decimal(self.next(1)[0]) if has_more else Fraction(1)
         if self.revision == 2013 or "lines-2013-dropped" in self.keys:
-            self.lines = self.lines[:max(self.at,
-                                         len(self.lines) - 2)]  # (a note quotes both lines)
+            # (a note quotes both lines)
+            more = [fields for fields in self.lines[self.at:] if fields != [b""]]
+            self.lines = self.lines[:self.at] + more[2:]
         need(self.at == len(self.lines), "a line too many")
         known = (b"ASCII", b"BINARY") + ((b"BINARY32", b"FLOAT32") if self.revision == 2013
                                          else ())

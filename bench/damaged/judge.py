@@ -116,8 +116,10 @@ class Judge:
         fault = answer.fault()
         there = [os.path.exists(new + ending) for ending in (".cfg", ".dat")]
         is_told = "`comtrade import` cannot read it" in csv.said
-        if fault or there != [answer.status == 0] * 2 or answer.status != csv.status and not is_told:
-            yield "import: %s, status %d, csv %d, files %s" % (fault, answer.status, csv.status, there)
+        is_other = answer.status != csv.status and not is_told
+        if fault or is_other or there != [answer.status == 0] * 2:
+            yield "import: %s, status %d, csv %d, files %s" % (
+                fault, answer.status, csv.status, there)
         elif answer.status == 0:
             told = keys_of(answer.out.decode("utf-8", "replace")) ^ keys_of(csv.said)
             if told - UNTOLD:
