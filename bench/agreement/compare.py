@@ -1,12 +1,12 @@
-"""Compares what two commands print of the same record. Each function yields what disagrees, in words."""
+"""Compares what two commands print of the same record. Each function yields what disagrees, in
+words."""
 import math
 import re
 from datetime import datetime
 
-from views import sized
-
 EPOCH = datetime(1970, 1, 1)
-# Half a unit of the last digit that is printed: six digits, microseconds, four digits of a picture.
+# Half a unit of the last digit that is printed: six digits, microseconds, four digits of a
+# picture.
 SIX, MICRO, FOUR = 5.1e-6, 0.00051, 5.1e-4
 
 
@@ -88,7 +88,8 @@ def with_list(listed, show, rows):
         if channel["unit"] in ("A", "kA"):
             least, greatest = extreme(rows, k, -1)[0], extreme(rows, k, 1)[0]
             if least is not None:
-                peaks.setdefault(channel["id"], []).append((max(least, greatest, key=abs), channel["unit"]))
+                peak = max(least, greatest, key=abs), channel["unit"]
+                peaks.setdefault(channel["id"], []).append(peak)
     said = re.match(r"(.*) (-?[0-9.e+-]+) (k?A), of nominal ", line["greatest_current"] or "")
     if bool(said) != bool(peaks):
         yield told("list greatest_current", line["greatest_current"], peaks)
@@ -97,80 +98,47 @@ def with_list(listed, show, rows):
         yield told("list greatest_current", line["greatest_current"], peaks.get(said[1]))
 
 
+def gaps_of(rows):
+    """Runs of rows with missing samples: the first and the last row, and the most channels that
+    miss one."""
+    gaps, begin = [], None
+    missing = [sum(values[i] is None for values in rows.values) for i in range(rows.count)] + [0]
+    for i, count in enumerate(missing):
+        if count and begin is None:
+            begin = i
+        if not count and begin is not None:
+            gaps.append((begin + 1, i, max(missing[begin:i])))
+            begin = None
+    return gaps
+
+
 def with_events(listed, show, rows):
-    """What `events` prints: each change of a contact, and the trigger."""
-    wanted = sorted((at, k + 1, bit) for k in range(len(rows.bits)) for at, bit in changes_of(rows, k))
-    found = []
+    """What `events` prints: each change of a contact, each gap, and the trigger."""
+    wanted = sorted((at, k + 1, bit)
+                    for k in range(len(rows.bits)) for at, bit in changes_of(rows, k))
+    found, gaps = [], []
+    by_time = dict(zip(("%.3f" % ms for ms in rows.millis), rows.instants))
     for event in listed["events"]:
         said = re.match(r"D([0-9]+) (?:.* )?([01])$", event["what"])
+        gap = re.match(r"readings of ([0-9]+) channels? missing, rows? ([0-9]+)(?: to ([0-9]+))?$",
+                       event["what"])
         if said:
             found.append((event["ms"], int(said[1]), int(said[2])))
+        elif gap:
+            gaps.append((int(gap[2]), int(gap[3] or gap[2]), int(gap[1])))
         elif event["what"].startswith("trigger") and event["instant"] != show["trigger"]:
             yield "events trigger: %r, show %r" % (event["instant"], show["trigger"])
+        its = by_time.get("%.3f" % event["ms"])
+        if (said or gap) and its and abs(micros(event["instant"]) - micros(its)) > 1:
+            yield told("events instant", event["instant"], its)
+    if sorted(gaps) != gaps_of(rows):
+        yield told("events gaps", gaps, gaps_of(rows))
     found.sort()
     if len(found) != len(wanted):
         yield told("events", len(found), len(wanted))
     for one, other in zip(found, wanted):
         if one[1:] != other[1:] or not near(one[0], other[0], 0, MICRO):
             yield told("event", one, other)
-
-
-def rms(values):
-    return math.sqrt(math.fsum(v * v for v in values) / len(values))
-
-
-def with_measure(made, rows):
-    """What `measure --at` prints, over the rows that it names."""
-    first, last = made["first_row"] - 1, made["last_row"]
-    phasors = {}
-    for k, channel in enumerate(made["channels"]):
-        values = rows.values[k][first:last]
-        name = "%s, rows %d to %d" % (channel["id"], first + 1, last)
-        if None in values:
-            if channel["rms"] is not None:
-                yield told("measure rms of " + name, channel["rms"], None)
-            continue
-        if not near(channel["rms"], rms(values), 1e-12, 1e-300):
-            yield told("measure rms of " + name, channel["rms"], rms(values))
-        peak = max(values, key=abs)
-        if not near(abs(channel["peak"]), abs(peak), 1e-12):
-            yield told("measure peak of " + name, channel["peak"], peak)
-        at = [rows.millis[first + i] for i, v in enumerate(values) if near(v, channel["peak"], 1e-12)]
-        if not any(near(channel["peak_ms"], t, 0, MICRO) for t in at):
-            yield told("measure peak_ms of " + name, channel["peak_ms"], at)
-        size = len(values) / made["cycles"]
-        if size == int(size) and made["cycles"] == 1:
-            turn = [2 * math.pi * i / size for i in range(len(values))]
-            re_part = math.fsum(v * math.cos(t) for v, t in zip(values, turn)) * math.sqrt(2) / size
-            im_part = -math.fsum(v * math.sin(t) for v, t in zip(values, turn)) * math.sqrt(2) / size
-            phasors[channel["n"]] = complex(re_part, im_part)
-            beside = 1e-9 * max(abs(v) for v in values)
-            if not near(channel["magnitude"], abs(phasors[channel["n"]]), 1e-9, beside):
-                yield told("measure magnitude of " + name, channel["magnitude"], abs(phasors[channel["n"]]))
-    angles = {channel["n"]: channel["angle"] for channel in made["channels"]}
-    base = phasors.get(made["reference"])
-    for n, phasor in phasors.items():
-        if base and angles[n] is not None and abs(phasor) > 1e-3:
-            off = (math.degrees(math.atan2((phasor / base).imag, (phasor / base).real)) - angles[n] + 180) % 360 - 180
-            if abs(off) > 1e-5:
-                yield told("measure angle of channel %d" % n, angles[n], off)
-
-
-def with_page(page, show, rows):
-    """The data of `page`."""
-    if page.head["rows"] != rows.count:
-        yield told("page rows", page.head["rows"], rows.count)
-    for i, (one, other) in enumerate(zip(page.millis, rows.millis)):
-        if not near(one, other, 1e-12, 1e-9):
-            yield told("page time of row %d" % (i + 1), one, other)
-            break
-    for k, channel in enumerate(show["analog"]):
-        for i, (one, other) in enumerate(zip(page.values[k], rows.values[k])):
-            if not near(one, other, 1e-12, 1e-9 * abs(channel["b"])):
-                yield told("page value of %s, row %d" % (channel["id"], i + 1), one, other)
-                break
-    if page.bits != rows.bits:
-        yield told("page bits", page.bits, rows.bits)
 
 
 def with_import(imported, rows, is_rounded):
@@ -191,65 +159,11 @@ def with_import(imported, rows, is_rounded):
                 break
 
 
-def around(values, row, cycle):
-    """The rms values before and after a row: of the last but one cycle before it, or the last, and of the next one."""
-    before = after = None
-    for end in (row - cycle, row):
-        if end - cycle >= 0 and before is None:
-            before = rms(values[end - cycle:end])
-    if row + cycle <= len(values):
-        after = rms(values[row:row + cycle])
-    return before, after
-
-
-def with_levels(picture, show, rows, row):
-    """The rms values in `plot` around an inception or a trigger, where a cycle has a whole number of rows."""
-    cycle = show["rates"][0]["rate"] / show["frequency"] if len(show["rates"]) == 1 and show["frequency"] else 0.5
-    if cycle != int(cycle) or cycle < 8:
-        return
-    for k, channel in enumerate(show["analog"]):
-        if channel["id"] not in picture.rms or None in rows.values[k]:
-            continue
-        wanted = around(rows.values[k], row, int(cycle))
-        said = picture.rms[channel["id"]]
-        found = [sized(part, channel["unit"]) for part in re.sub(" (after|before)$", "", said).split(" → ")]
-        wanted = [value for value in wanted if value is not None]
-        if len(found) != len(wanted) or not all(near(one, other, FOUR) for one, other in zip(found, wanted)):
-            yield told("plot rms of %s" % channel["id"], said, wanted)
-
-
-def with_bars(picture, show, rows):
-    """The bars of contacts in `plot`: each begins and ends where the contact changes, to a tenth of a pixel."""
-    bars = dict(picture.bars)
-    if len(picture.times) < 2 or rows.millis != sorted(rows.millis):
-        return
-    for k, contact in enumerate(show["status"]):
-        spans, begin = [], None
-        for i, bit in enumerate(rows.bits[k] + [0]):
-            if bit and begin is None:
-                begin = i
-            if not bit and begin is not None:
-                spans.append((rows.millis[begin], rows.millis[min(i, rows.count - 1)]))
-                begin = None
-        drawn = bars.get(contact["id"])
-        if drawn is None:
-            yield told("plot bars of %s" % contact["id"], None, spans)
-            continue
-        drawn = [(picture.time_at(x), picture.time_at(end)) for x, end in drawn]
-        if sum(end - x for x, end in spans) and not drawn:
-            yield told("plot bars of %s" % contact["id"], drawn, spans)
-        # Bars that would overlap are drawn as one, and the least width is half a pixel.
-        reach = 8 * picture.step()
-        for x, end in spans:
-            if not any(a - reach <= x and end <= b + reach for a, b in drawn):
-                yield told("plot bar of %s" % contact["id"], drawn, (x, end))
-
-
 def with_library(record, show, rows):
     """The tables of the C library, by the Python package."""
     if len(record) != rows.count:
         yield told("library rows", len(record), rows.count)
-    for i, nanos in enumerate(record.times_ns):
+    for i, nanos in enumerate(record.times_ns if None not in rows.millis else ()):
         if nanos != round((rows.millis[i] - rows.millis[0]) * 1e6):
             yield told("library time of row %d" % (i + 1), nanos, rows.millis[i] - rows.millis[0])
             break
@@ -261,18 +175,3 @@ def with_library(record, show, rows):
                 break
     if [list(contact.bits) for contact in record.status] != rows.bits:
         yield "library bits: others than csv"
-
-
-def with_picture(picture, show, rows):
-    """The texts of `plot`: peaks and the trigger."""
-    if not picture.trigger or picture.trigger[1] != show["trigger"]:
-        yield "plot trigger: %r, show %r" % (picture.about[:40], show["trigger"])
-    drawn = [k for k in range(len(show["analog"])) if extreme(rows, k, 1)[0] is not None]
-    if len(picture.peaks) != len(drawn):
-        yield told("plot peaks", len(picture.peaks), len(drawn))
-        return
-    for k, (name, peak) in zip(drawn, picture.peaks):
-        channel = show["analog"][k]
-        wanted = max(extreme(rows, k, -1)[0], extreme(rows, k, 1)[0], key=abs)
-        if name != channel["id"] or not near(abs(sized(peak, channel["unit"])), abs(wanted), FOUR):
-            yield told("plot peak of %s" % channel["id"], (name, peak), wanted)

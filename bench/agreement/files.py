@@ -1,4 +1,5 @@
-"""Records by chance, and how they are written: strict pairs of 1999, and the forms that relays give them."""
+"""Records by chance, and how they are written: strict pairs of 1999, and the forms that relays
+give them."""
 import math
 import struct
 
@@ -21,7 +22,8 @@ class Record:
         self.trigger = chance.randrange(self.rows)
         self.day = chance.randrange(13, 28)
         self.channels = [self.channel(chance, n) for n in range(chance.randrange(0, 7))]
-        self.contacts = [self.contact(chance, n) for n in range(chance.randrange(0 if self.channels else 1, 20))]
+        self.contacts = [self.contact(chance, n)
+                         for n in range(chance.randrange(0 if self.channels else 1, 20))]
         self.multiplier = chance.choice(["1", "1", "10", "0.5"])
 
     def channel(self, chance, n):
@@ -33,13 +35,15 @@ class Record:
         samples = []
         for row in range(self.rows):
             now = size * (grown if fault <= row else 1)
-            samples.append(round(now * math.sin(2 * math.pi * step * row + lag) + chance.gauss(0, 2)))
+            wave = now * math.sin(2 * math.pi * step * row + lag)
+            samples.append(round(wave + chance.gauss(0, 2)))
         if chance.random() < 0.2:
             for _ in range(chance.randrange(1, 5)):
                 samples[chance.randrange(self.rows)] = MISSING
         a = chance.choice(["1", "0.0357", "1.25E-3", "2", "-0.5"])
         b = chance.choice(["0", "0", "0.25", "-13"])
-        return {"id": ("U" if n < 3 else "I") + ("ABC"[n % 3] if phase else "X%d" % n), "phase": phase, "unit": unit,
+        return {"id": ("U" if n < 3 else "I") + ("ABC"[n % 3] if phase else "X%d" % n),
+                "phase": phase, "unit": unit,
                 "a": a, "b": b, "side": chance.choice("PS"), "samples": samples}
 
     def contact(self, chance, n):
@@ -67,16 +71,19 @@ class Record:
         return [round(seconds * 1e6 / float(self.multiplier)) for seconds in self.seconds()]
 
 
-def head(record, kind, year="1999", endsamp=None, order="dmy", short=False, rates=True, samples=None):
+def head(record, kind, year="1999", endsamp=None, order="dmy", short=False, rates=True,
+         samples=None):
     """The lines of a configuration file."""
     first = "Station %d,DFR" % record.day
     lines = [first + ("," + year if year != "1991" else "")]
     k, m = len(record.channels), len(record.contacts)
     lines.append("%d,%dA,%dD" % (k + m, k, m))
     for n, c in enumerate(record.channels, 1):
-        known = [x for x in (samples or [c["samples"] for c in record.channels])[n - 1] if x is not MISSING]
+        known = [x for x in (samples or [c["samples"] for c in record.channels])[n - 1]
+                 if x is not MISSING]
         span = "%d,%d" % (math.floor(min(known, default=0)), math.ceil(max(known, default=0)))
-        line = "%d,%s,%s,Bay,%s,%s,%s,0,%s" % (n, c["id"], c["phase"], c["unit"], c["a"], c["b"], span)
+        line = "%d,%s,%s,Bay,%s,%s,%s,0,%s" % (n, c["id"], c["phase"], c["unit"], c["a"], c["b"],
+                                               span)
         lines.append(line + ("" if year == "1991" else ",100,1," + c["side"]))
     for n, c in enumerate(record.contacts, 1):
         form = "%d,%s,%d" if year == "1991" or short else "%d,%s,,,%d"
@@ -84,11 +91,13 @@ def head(record, kind, year="1999", endsamp=None, order="dmy", short=False, rate
     lines.append("%g" % record.frequency)
     if rates:
         lines.append("%d" % len(record.rates))
-        lines += ["%.10g,%d" % (rate, min(end, record.rows) if endsamp is None or end < record.rows else endsamp)
+        lines += ["%.10g,%d" % (rate, min(end, record.rows) if endsamp is None
+                                or end < record.rows else endsamp)
                   for rate, end in record.rates]
     else:
         lines += ["0", "0,%d" % record.rows]
-    lines += [record.instant(0, order), record.instant(record.seconds()[record.trigger], order), kind]
+    lines += [record.instant(0, order), record.instant(record.seconds()[record.trigger], order),
+              kind]
     if year != "1991":
         lines.append(record.multiplier)
     if year == "2013":
@@ -117,7 +126,8 @@ def packed_rows(record, form, missing, order="<"):
             out += struct.pack(order + form, missing if x is MISSING else x)
         bits = [c["bits"][row] for c in record.contacts]
         for at in range(0, len(bits), 16):
-            out += struct.pack(order + "H", sum(bit << i for i, bit in enumerate(bits[at:at + 16])))
+            out += struct.pack(order + "H",
+                               sum(bit << i for i, bit in enumerate(bits[at:at + 16])))
     return bytes(out)
 
 
@@ -132,35 +142,39 @@ def whole(record):
 
 
 def parts(record, divisor):
-    return [[MISSING if x is MISSING else x / divisor for x in c["samples"]] for c in record.channels]
+    return [[MISSING if x is MISSING else x / divisor for x in c["samples"]]
+            for c in record.channels]
 
 
 def single(cfg, kind, data):
     count = "" if kind == "ASCII" else ": %d" % len(data)
-    return b"--- file type: CFG ---\r\n" + cfg + b"--- file type: DAT %s%s ---\r\n" % (kind.encode(), count.encode()) + data
+    between = b"--- file type: DAT %s%s ---\r\n" % (kind.encode(), count.encode())
+    return b"--- file type: CFG ---\r\n" + cfg + between + data
 
 
 FORMS = {
     "ascii": lambda r: {"cfg": head(r, "ASCII"), "dat": text_rows(r, whole(r))},
     "binary": lambda r: {"cfg": head(r, "BINARY"), "dat": packed_rows(r, "h", -32768)},
     "stamps": lambda r: {"cfg": head(r, "ASCII", rates=False), "dat": text_rows(r, whole(r))},
-    "of-1991": lambda r: {"cfg": head(r, "ASCII", "1991"), "dat": text_rows(plain_stamps(r), whole(r))},
+    "of-1991": lambda r: {"cfg": head(r, "ASCII", "1991"),
+                          "dat": text_rows(plain_stamps(r), whole(r))},
     "of-2013": lambda r: {"cfg": head(r, "ASCII", "2013"), "dat": text_rows(r, whole(r), "")},
-    "binary32": lambda r: {"cfg": head(r, "BINARY32", "2013"), "dat": packed_rows(r, "i", -(1 << 31))},
-    "float32": lambda r: {"cfg": head(r, "FLOAT32", "2013"), "dat": packed_rows(r, "f", float("nan"))},
-    "decimals": lambda r: {"cfg": head(r, "ASCII", samples=parts(r, 8)), "dat": text_rows(r, parts(r, 8))},
+    "binary32": lambda r: {"cfg": head(r, "BINARY32", "2013"),
+                           "dat": packed_rows(r, "i", -(1 << 31))},
+    "float32": lambda r: {"cfg": head(r, "FLOAT32", "2013"),
+                          "dat": packed_rows(r, "f", float("nan"))},
+    "decimals": lambda r: {"cfg": head(r, "ASCII", samples=parts(r, 8)),
+                           "dat": text_rows(r, parts(r, 8))},
     "big-endian": lambda r: {"cfg": head(r, "BINARY"), "dat": packed_rows(r, "h", -32768, ">")},
-    "rows-fewer": lambda r: {"cfg": head(r, "ASCII", endsamp=r.rows + 7), "dat": text_rows(r, whole(r))},
-    "rows-more": lambda r: {"cfg": head(r, "BINARY", endsamp=r.rows - 1), "dat": packed_rows(r, "h", -32768)},
+    "rows-fewer": lambda r: {"cfg": head(r, "ASCII", endsamp=r.rows + 7),
+                             "dat": text_rows(r, whole(r))},
+    "rows-more": lambda r: {"cfg": head(r, "BINARY", endsamp=r.rows - 1),
+                            "dat": packed_rows(r, "h", -32768)},
     "month-first": lambda r: {"cfg": head(r, "ASCII", order="mdy"), "dat": text_rows(r, whole(r))},
     "three-fields": lambda r: {"cfg": head(r, "ASCII", short=True), "dat": text_rows(r, whole(r))},
     "marked": lambda r: {"cfg": b"\xef\xbb\xbf" + head(r, "ASCII"), "dat": text_rows(r, whole(r))},
-    "single": lambda r: {"cff": single(head(r, "ASCII", "2013"), "ASCII", text_rows(r, whole(r), ""))},
-    "single-binary": lambda r: {"cff": single(head(r, "BINARY", "2013"), "BINARY", packed_rows(r, "h", -32768))},
+    "single": lambda r: {"cff": single(head(r, "ASCII", "2013"), "ASCII",
+                                       text_rows(r, whole(r), ""))},
+    "single-binary": lambda r: {"cff": single(head(r, "BINARY", "2013"), "BINARY",
+                                              packed_rows(r, "h", -32768))},
 }
-STRICT = ("ascii", "binary", "stamps")
-
-
-def made(chance, form):
-    """The files of a record by chance in a form, by their endings."""
-    return FORMS[form](Record(chance))

@@ -1,18 +1,24 @@
 """What the commands print of a record, as values."""
 import base64
 import csv
+import functools
 import io
 import json
+import os
 import re
+import shutil
 import struct
 import subprocess
 from html import unescape
 
 
+@functools.lru_cache(maxsize=40)
 def run(program, *words):
-    """What a command prints: status, standard output, standard error."""
+    """What a command prints: status, standard output, standard error. Asked again with the same
+    words, it isn't run again."""
     done = subprocess.run([program, *words], capture_output=True, timeout=1200)
-    return done.returncode, done.stdout.decode("utf-8", "replace"), done.stderr.decode("utf-8", "replace")
+    return done.returncode, done.stdout.decode("utf-8", "replace"), done.stderr.decode("utf-8",
+                                                                                       "replace")
 
 
 def number(text):
@@ -26,8 +32,10 @@ class Rows:
         lines = list(csv.reader(io.StringIO(text)))
         self.names, rows = lines[0][3:], lines[1:]
         self.instants = [row[1] for row in rows]
-        self.millis = [number(row[2]) for row in rows]
-        self.values = [[number(row[3 + k]) for row in rows] for k in range(analog)]
+        self.ms_texts = [row[2] for row in rows]
+        self.millis = [number(text) for text in self.ms_texts]
+        self.texts = [[row[3 + k] for row in rows] for k in range(analog)]
+        self.values = [[number(text) for text in texts] for texts in self.texts]
         self.bits = [[int(row[k]) for row in rows] for k in range(3 + analog, len(lines[0]))]
         self.count = len(rows)
 
@@ -39,17 +47,33 @@ def as_json(program, *words):
     return json.loads(out)
 
 
-PREFIX = {"G": 1e9, "M": 1e6, "k": 1e3, "": 1.0, "m": 1e-3, "µ": 1e-6, "u": 1e-6}
+PREFIX = {"E": 1e18, "P": 1e15, "T": 1e12, "G": 1e9, "M": 1e6, "k": 1e3, "": 1.0, "m": 1e-3,
+          "µ": 1e-6, "u": 1e-6, "n": 1e-9, "p": 1e-12}
 
 
 def sized(text, unit):
-    """The number in `-6.218 kA` in this unit; the prefix of both is told by the letters before the same word."""
+    """The number in `-6.218 kA` in this unit; the prefix of both is told by the letters before the
+    same word."""
     value, _, its = text.partition(" ")
     for there, by in PREFIX.items():
         for here, into in PREFIX.items():
-            if its[len(there):] and its.startswith(there) and unit.startswith(here) and its[len(there):] == unit[len(here):]:
+            is_same = its[len(there):] == unit[len(here):] != ""
+            if is_same and its.startswith(there) and unit.startswith(here):
                 return float(value) * by / into
     raise ValueError("%r is no number of %s" % (text, unit))
+
+
+def line_through(known):
+    """The line through the outermost of some pairs (place, value)."""
+    (x1, v1), (x2, v2) = min(known), max(known)
+    return lambda x: v1 + (x - x1) * (v2 - v1) / (x2 - x1)
+
+
+# A name in the legend and its rms values; the name of a contact and its bars.
+LEGEND = re.compile(r'<text x="948" y="[0-9.]+">([^<]*?)(?: \([A-Za-z0-9]+\))?</text>\n'
+                    r'<text [^>]*>peak [^<]*?, rms ([^<]*)<')
+BARS = re.compile(r'<text x="948" y="[0-9.]+">([^<]*)</text>\n(?:<path class="e"[^>]*/>\n)?'
+                  r'((?:<path class="[ko]"[^>]*/>\n)*)')
 
 
 class Picture:
@@ -58,15 +82,19 @@ class Picture:
     def __init__(self, text):
         self.about = unescape(re.search(r"<desc[^>]*>(.*?)</desc>", text, re.S)[1])
         self.trigger = re.match(r"Trigger (\S+ \S+)\. ", self.about)
-        self.peaks = re.findall(r" ([^;]*?) (-?[0-9.]+(?:e-?[0-9]+)? [^;]*);", self.about.partition("Peaks:")[2])
-        legends = re.findall(r'<text x="948" y="[0-9.]+">([^<]*?)(?: \([A-Za-z0-9]+\))?</text>\n<text [^>]*>peak [^<]*?, rms ([^<]*)<', text)
-        self.rms = {unescape(name): said for name, said in legends}
-        ends = re.findall(r'<text x="([0-9.]+)" y="62" text-anchor="middle">(-?[0-9.]+)</text>', text)
-        self.times = [(float(x), float(ms)) for x, ms in ends]
+        self.peaks = self.about.partition("Peaks:")[2]
+        legends = LEGEND.findall(text)
+        self.rms = [(unescape(name), said) for name, said in legends]
+        ends = re.findall(r'<text x="([0-9.]+)" y="62" text-anchor="middle">(-?[0-9.]+)</text>',
+                          text)
+        unit = re.search(r'y="62">([^<]*) since the trigger<', text)
+        scale = {"s": 1e3, "ms": 1.0, "µs": 1e-3}[unit[1]] if unit else 1.0
+        self.times = [(float(x), float(label) * scale) for x, label in ends]
         self.bars = []
-        for name, drawn in re.findall(r'<text x="948" y="[0-9.]+">([^<]*)</text>\n(?:<path class="e"[^>]*/>\n)?((?:<path class="[ko]"[^>]*/>\n)*)', text):
+        for name, drawn in BARS.findall(text):
             spans = re.findall(r"M([0-9.]+) [0-9.]+h([0-9.]+)v", drawn)
-            self.bars.append((unescape(name), [(float(x), float(x) + float(width)) for x, width in spans]))
+            self.bars.append((unescape(name),
+                              [(float(x), float(x) + float(width)) for x, width in spans]))
 
     def time_at(self, x):
         """The time of a place, by the labels of the axis."""
@@ -93,8 +121,33 @@ class Page:
             raw = base64.b64decode(blocks["s%d" % k])
             form, missing = ("i", -(1 << 31)) if channel["wide"] else ("h", -(1 << 15))
             samples = struct.unpack("<%d%s" % (count, form), raw)
-            self.values.append([None if x == missing else channel["a"] * x + channel["b"] for x in samples])
+            self.values.append([None if x == missing else channel["a"] * x + channel["b"]
+                                for x in samples])
         self.bits = []
         for k in range(len(self.head["status"])):
             raw = base64.b64decode(blocks["d%d" % k])
             self.bits.append([raw[i // 8] >> i % 8 & 1 for i in range(count)])
+
+
+class Shown:
+    """What the script of a page has and shows, run by node; some rows (from 1) in the tables."""
+
+    def __init__(self, said):
+        self.millis = [t / 1e6 for t in said["times"]]
+        self.values, self.bits, self.extremes = said["values"], said["bits"], said["extremes"]
+        self.changes, self.units, self.rows = said["changes"], said["units"], said["rows"]
+        self.at = {one["row"]: one for one in said["at"]}
+
+    @classmethod
+    def of(cls, text, folder, rows):
+        """None where node isn't here."""
+        if not shutil.which("node"):
+            return None
+        page = os.path.join(folder, "page.html")
+        with open(page, "w", encoding="utf-8") as file:
+            file.write(text)
+        script = os.path.join(os.path.dirname(os.path.abspath(__file__)), "page.js")
+        status, out, said = run("node", script, page, *map(str, rows))
+        if status != 0:
+            raise ValueError("the page's script: " + said.strip()[-300:])
+        return cls(json.loads(out))
