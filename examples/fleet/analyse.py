@@ -59,7 +59,7 @@ def analyse(name):
     import dfr_comtrade
 
     try:
-        record = dfr_comtrade.read(name, exact=True)
+        record = dfr_comtrade.read(name)
         said = {
             "name": name,
             "station": record.station,

@@ -212,11 +212,9 @@ class Channels(Sequence[_C]):
 class Record:
     """A record that has been read. Times count from the first row."""
 
-    def __init__(self, at: ctypes.c_void_p, notes: List[str]):
+    def __init__(self, at: ctypes.c_void_p):
         self._record = kept = _Kept(at)
         head = kept.head
-        #: What was repaired, or rounded to the samples of 1999: a line for each kind, which begins with its key and a colon.
-        self.notes = notes
         self.line_freq: float = head.line_freq
         self.timemult: float = head.timemult
         self.binary: bool = head.binary
@@ -294,13 +292,10 @@ class Record:
 
     to_dataframe = to_pandas
 
-    def _has_note(self, key: str) -> bool:
-        return any(note.startswith(key + ":") for note in self.notes)
-
     @property
     def rev_year(self) -> str:
-        """The revision of the standard that the files follow: 1991, 1999 or 2013."""
-        return next((year for year in ("1991", "2013") if self._has_note(f"revision-{year}")), "1999")
+        """The revision of the standard: always 1999."""
+        return "1999"
 
     @property
     def channels_count(self) -> int:
@@ -369,8 +364,5 @@ class Record:
 
     @property
     def ft(self) -> str:
-        """The type of the data: ASCII, BINARY, BINARY32 or FLOAT32."""
-        for key, kind in (("kind-binary32", "BINARY32"), ("kind-float32", "FLOAT32")):
-            if self._has_note(key):
-                return kind
+        """The type of the data file: ASCII or BINARY."""
         return "BINARY" if self.binary else "ASCII"

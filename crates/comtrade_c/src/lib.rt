@@ -6,7 +6,6 @@
 mod answer;
 mod binary;
 mod channels;
-mod import;
 mod rows;
 mod summary;
 mod texts;
