@@ -44,6 +44,11 @@ pub(crate) fn trigger_since_first<A: Allocator>(file: &File<A>) -> i128
     (file.head.trigger as i128 - file.head.first as i128) * 1000
 }
 
+/// A time since the first row as one since the trigger; None beyond 292 years.
+fn since(nanos: i64, trigger: i128) -> Option<i64> {
+    i64::try_from((nanos as i128).checked_sub(trigger)?).ok()
+}
+
 /// When each row was taken, in nanoseconds since the trigger; None where that is not known, and
 /// beyond 292 years.
 pub fn times_since_trigger<A: Allocator + Copy>(
@@ -56,7 +61,7 @@ pub fn times_since_trigger<A: Allocator + Copy>(
     let mut times = times_of(alloc, file)?;
     for time in times.iter_mut() {
         if let Some(nanos) = *time {
-            *time = i64::try_from(nanos as i128 - trigger).ok();
+            *time = since(nanos, trigger);
         }
     }
     Ok(times)

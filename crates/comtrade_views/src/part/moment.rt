@@ -23,15 +23,21 @@ fn digits(text: &str) -> Option<u64> {
 
 /// The value of the first digits after a point, as many as are asked for; zeros follow a text with
 /// fewer.
-fn places<const COUNT: usize>(text: &str) -> Option<u64> {
+fn places(text: &str, count: u32) -> Option<u64> {
     if !text.bytes().all(|b| b.is_ascii_digit()) {
         return None;
     }
-    let mut kept = [b'0'; COUNT];
-    for (kept, b) in kept.iter_mut().zip(text.bytes()) {
-        *kept = b;
+    let (mut number, mut left) = (0u64, count);
+    for b in text.bytes() {
+        let Some(less) = left.checked_sub(1) else {
+            break;
+        };
+        left = less;
+        number = number
+            .checked_mul(10)?
+            .checked_add(u64::from(b.checked_sub(b'0')?))?;
     }
-    digits(str::from_utf8(&kept).ok()?)
+    number.checked_mul(10u64.checked_pow(left)?)
 }
 
 /// The text before a sign and the text after it; without the sign, all of it and nothing.
@@ -48,7 +54,7 @@ fn millis_of(text: &str) -> Option<i128> {
     };
     let (whole, fraction) = halves(size, '.');
     let millis = i128::from(digits(whole)?);
-    let nanos = millis * 1_000_000 + i128::from(places::<6>(fraction)?);
+    let nanos = millis * 1_000_000 + i128::from(places(fraction, 6)?);
     Some(if is_before { -nanos } else { nanos })
 }
 
@@ -63,7 +69,7 @@ fn time_of(text: &str) -> Option<Time> {
     // (seconds may be left out)
     let (minute, second) = rest.split_once(':').unwrap_or((rest, "0"));
     let (second, fraction) = halves(second, '.');
-    let nanos = i32::try_from(places::<9>(fraction)?).ok()?;
+    let nanos = i32::try_from(places(fraction, 9)?).ok()?;
     Time::new(small(hour)?, small(minute)?, small(second)?, nanos).ok()
 }
 

@@ -12,7 +12,7 @@ pub(crate) struct Channels<A: Allocator> {
 }
 
 /// Whether a text matches a pattern in which * stands for any characters. Case is ignored.
-fn fits(name: &[u8], text: &[u8]) -> bool {
+fn fits<'x>(name: &'x [u8], text: &'x [u8]) -> bool {
     let mut match_so_far = Some(Matched {
         name,
         text,
