@@ -1,8 +1,8 @@
-# when detectors fire on disturbances of a line, by their definitions in another language; nothing fires in 20 seconds of noise
+# when detectors fire on disturbances of a line, by their definitions in another language; nothing fires in 8 seconds of noise
 command -v python3 > /dev/null || { echo "python3 isn't here" >&2; exit 77; }
 work=$(mktemp -d)
 trap 'rm -rf "$work"' EXIT
-for name in $(python3 files/disturbances.py make "$work" 20); do
+for name in $(python3 files/disturbances.py make "$work" 8); do
     "$comtrade" detect "$work/lines" "$work/$name" > "$work/$name.told" || echo "status $?"
 done
 python3 files/disturbances.py judge "$work"
