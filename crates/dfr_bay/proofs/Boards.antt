@@ -176,17 +176,13 @@ none_done s streams (f ∷ past) e = none_after s (arrival s (board s streams pa
 
 pub taken : {X : Type 0} (old : Kept X) (f : Frame X) (before : List (Option X)) (a : Arrival) (after : List (Option X)) (new : Kept X)
     → a ≡ arrival_of old f.stream f.count → after ≡ before ++ gives a f old → new ≡ kept_after a f old → IsTaken old f before a after new
-taken {X = X} old f before a after new is gave keeps s streams past others h stands =
+taken {X = X} old f before a after new is gave keeps s streams past h =
     let b = board s streams past in
     let same : arrival s b f ≡ a = same_arrival s b f ∙ ap (λ (k : Kept X). arrival_of k f.stream f.count) h ∙ sym is in
     let more = after_by s f b _ refl (none_done s streams past) in
     let given : gives (arrival s b f) f (kept s b) ≡ gives a f old = ap (λ v. gives v f (kept s b)) same ∙ ap (λ (k : Kept X). gives a f k) h in (
       same,
-      ap (λ (xs : List (Option X)). others ++ xs) more.1
-          ∙ sym (append_assoc others (source b) (gives (arrival s b f) f (kept s b)))
-          ∙ ap (λ (xs : List (Option X)). xs ++ gives (arrival s b f) f (kept s b)) stands
-          ∙ ap (λ (xs : List (Option X)). before ++ xs) given
-          ∙ sym gave,
+      record { given = gives a f old; appended = gave; source_grew = more.1 ∙ ap (λ (xs : List (Option X)). source b ++ xs) given },
       more.0 ∙ ap (λ v. kept_after v f (kept s b)) same ∙ ap (λ (k : Kept X). kept_after a f k) h ∙ sym keeps,
     )
 

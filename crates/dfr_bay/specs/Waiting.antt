@@ -30,13 +30,19 @@ kept s b =
       strays = b.strays;
     }
 
--- For every history of which `old` is kept, whatever stands before its scans: this becomes of the next frame, then the scans with that frame
--- stand there, and `new` is kept.
+-- a list grew by just the scans by which the source did
+pub record Grows {X : Type 0} (before after was now : List X) : Type 0 where
+  pub given : List X
+  pub appended : after ≡ before ++ given
+  pub source_grew : now ≡ was ++ given
+
+-- For every history of which `old` is kept: this becomes of the next frame; a list, whatever it has, grows by the scans that the source has
+-- more with that frame; and `new` is kept.
 abbrev pub IsTaken : {X : Type 0} → Kept X → Frame X → List (Option X) → Arrival → List (Option X) → Kept X → Type 0
 IsTaken {X} old f before a after new =
-    (s : Settings) (streams : ℕ) (past : List (Frame X)) (others : List (Option X)) → kept s (board s streams past) ≡ old
-    → others ++ source (board s streams past) ≡ before
-    → (arrival s (board s streams past) f ≡ a) × (others ++ source (board s streams (f ∷ past)) ≡ after) × (kept s (board s streams (f ∷ past)) ≡ new)
+    (s : Settings) (streams : ℕ) (past : List (Frame X)) → kept s (board s streams past) ≡ old
+    → (arrival s (board s streams past) f ≡ a) × Grows before after (source (board s streams past)) (source (board s streams (f ∷ past)))
+    × (kept s (board s streams (f ∷ past)) ≡ new)
 
 -- how the queues are kept
 abbrev pub queue_at : {X : Type 0} → ℕ → List (Buffer (Option X)) → ℕ → Buffer (Option X)
