@@ -1,6 +1,7 @@
 //! The times of rows, given the rates or the time stamps. Times are in picoseconds since the
 //! first row.
 
+use crate::nearest::rounded;
 use crate::num::Num;
 use comtrade_format::{Border, Rate};
 use comtrade_values::{Decimal, Exact};
@@ -118,16 +119,4 @@ fn time_of_number(number: Exact, timemult: Decimal) -> Option<i128> {
         Some(part) => rounded(time.units, part),
         None => Some(0), // the divisor is above all numbers of 128 bits
     }
-}
-
-/// The whole number nearest to n / part, for a positive part; halves are rounded away from 0. None
-/// if 128 bits cannot hold n and half a part.
-pub(crate) fn rounded(n: i128, part: i128) -> Option<i128> {
-    let half = part / 2;
-    let up = if n < 0 {
-        n.checked_sub(half)?
-    } else {
-        n.checked_add(half)?
-    };
-    up.checked_div(part)
 }

@@ -1,8 +1,9 @@
 //! Converts samples to whole numbers that a file of 1999 can hold, with the scale that
 //! restores them.
 
+use crate::nearest::over;
 use crate::num::{Num, exact_of, size_of_float, ten_to};
-use crate::scale::{Scale, over};
+use crate::scale::Scale;
 use crate::span::{Bounds, Span};
 use comtrade_values::Exact;
 

@@ -1,8 +1,9 @@
 //! The stamps that are written.
 
-use crate::clock::{Clock, rounded, time_of_stamp};
+use crate::clock::{Clock, time_of_stamp};
 use crate::fault::{ImportFault, Why};
 use crate::key::Key;
+use crate::nearest::rounded;
 use crate::note::Notes;
 use crate::num::Num;
 use crate::numbers::Tick;

@@ -28,6 +28,7 @@ mod left_out;
 mod lines;
 mod look;
 mod marks;
+mod nearest;
 mod note;
 mod num;
 mod numbers;

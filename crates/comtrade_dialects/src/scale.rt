@@ -2,6 +2,7 @@
 
 ghost use Rattle.jiff_core.specs.Calendar.{IsWithin};
 
+use crate::nearest::over;
 use crate::num::{Num, ten_to};
 
 /// Multiples of 10^-shift; `fives` is 5^shift for a shift from 0 to 44, else 1.
@@ -143,15 +144,4 @@ fn decimal_at(num: Num, shift: i32) -> Option<i64>
         Some(part) => over(num.mant, part),
         None => Some(0), // the digits of a decimal are below 10^18, so it is below half a unit
     }
-}
-
-/// The whole number nearest to n / part, for a positive part; halves are rounded away from 0.
-pub(crate) fn over(n: i64, part: i64) -> Option<i64> {
-    let half = part / 2;
-    let up = if n < 0 {
-        n.checked_sub(half)?
-    } else {
-        n.checked_add(half)?
-    };
-    up.checked_div(part)
 }

@@ -51,7 +51,7 @@ pub(crate) enum Reach {
 }
 
 impl Reach {
-    /// The same with one more multiple; None if 64 bits cannot hold it.
+    /// The same with one more multiple, which is None if 64 bits cannot hold it.
     fn with(self, near: Option<i64>) -> Reach {
         match (self, near) {
             (Reach::Empty, Some(near)) => Reach::Within(near, near),

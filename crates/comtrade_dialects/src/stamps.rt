@@ -1,10 +1,11 @@
 //! Decides what becomes of the numbers and time stamps of all rows.
 
-use crate::clock::{Clock, rounded, time_of_stamp};
+use crate::clock::{Clock, time_of_stamp};
 use crate::draft::{Draft, Revision};
 use crate::fault::ImportFault;
 use crate::kept_stamps::{kept, stamps_by_rate, start_of, time_of_tick, time_since};
 use crate::key::Key;
+use crate::nearest::rounded;
 use crate::note::{Notes, Place};
 use crate::num::Num;
 use crate::numbers::{Run, Tick, rates_for, run_of, tell_lost, tell_numbers};
