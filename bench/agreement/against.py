@@ -17,6 +17,9 @@ QUIET = {"revision-1991", "revision-2013", "sides-absent", "years-2-digits", "da
 UNTOLD = {"bom", "texts-not-ascii", "text-long", "phase-long", "unit-empty", "ids-alike",
           "text-nul", "text-comma", "trigger-before-first", "a-zero", "status-spare-bits",
           "dat-after-end"}
+# What is told of samples that a written pair can't hold, and of their ranges: import writes 16 bits,
+# the views show 32.
+OF_SIZE = {"values-rounded", "values-wide", "range-form"}
 EPOCH, MILLION = datetime(1970, 1, 1), 10 ** 6
 PLAIN = re.compile(rb"[A-Za-z0-9 /_.-]*")
 
@@ -43,12 +46,13 @@ def read_plainly(files, keys=frozenset()):
 
 
 def step_of(record, k):
-    """Half a step of a channel whose samples are rounded to 16 bits, and a little more."""
+    """Half a step of a channel whose samples are rounded to 32 bits, and a little more: the step is a
+    power of ten, of which at least 429 million are between the least and the greatest."""
     known = [row[2][k] for row in record.rows if row[2][k] is not None]
     span = max(known, default=0) - min(known, default=0)
     a, b = abs(record.head.analog[k][2]), abs(record.head.analog[k][3])
     size = max([abs(x) for x in known], default=0) * a + b
-    return a * span / 65534 * Fraction(501, 1000) + size / 10 ** 8
+    return a * span / 858000000 + size / 10 ** 16
 
 
 def with_values(record, rows, is_rounded):

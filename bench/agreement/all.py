@@ -8,7 +8,7 @@ import measures
 import pages
 import pictures
 import traces
-from against import keys_of, read_plainly, with_model, QUIET, UNTOLD
+from against import keys_of, read_plainly, with_model, OF_SIZE, QUIET, UNTOLD
 from views import Page, Picture, Rows, Shown, as_json, run
 
 VIEWS = (["show"], ["show", "--json"], ["list"], ["events"], ["measure"], ["plot"], ["page"],
@@ -91,14 +91,14 @@ def with_page(comtrade, names, show, rows, csv, measured, folder):
         yield from pages.with_script(shown, show, rows, measured)
 
 
-def with_import(comtrade, show, rows, csv, folder, has_library):
+def with_import(comtrade, show, rows, keys, folder, has_library):
     new = os.path.join(folder, "new")
     status, out, said = run(comtrade, "csv", new)
     if status != 0 or said:
         yield "csv of what import wrote: status %d: %s" % (status, said.strip()[-200:])
         return
     written = Rows(out, len(show["analog"]))
-    yield from compare.with_import(written, rows, "values-rounded" in csv.keys)
+    yield from compare.with_import(written, rows, "values-rounded" in keys)
     if has_library:
         import dfr_comtrade
         again = as_json(comtrade, "show", "--json", new)
@@ -151,9 +151,10 @@ def disagreements(comtrade, record, names, chance, folder, seen):
         if "`comtrade import` cannot read it" not in csv.said:
             yield "csv: status 0, import: status %d: %s" % (status, said.strip()[-200:])
         return
-    if keys_of(out) - UNTOLD != csv.keys - UNTOLD:
-        yield "import tells other notes than csv: %s, %s" % (sorted(keys_of(out)),
-                                                             sorted(csv.keys))
+    keys = keys_of(out)
+    beside = UNTOLD | OF_SIZE
+    if keys - beside != csv.keys - beside or "values-rounded" in csv.keys - keys:
+        yield "import tells other notes than csv: %s, %s" % (sorted(keys), sorted(csv.keys))
     show = as_json(comtrade, "show", "--json", *names)
     rows = Rows(csv.out, len(show["analog"]))
     for channel, name in zip(show["analog"] + show["status"], rows.names):
@@ -168,5 +169,5 @@ def disagreements(comtrade, record, names, chance, folder, seen):
     else:
         seen["compared in all"] += 1
         yield from of_times(comtrade, names, show, rows, csv, chance, folder)
-    yield from with_import(comtrade, show, rows, csv, folder,
+    yield from with_import(comtrade, show, rows, keys, folder,
                            bool(os.environ.get("DFR_COMTRADE_LIBRARY")))

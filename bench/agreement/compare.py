@@ -142,7 +142,7 @@ def with_events(listed, show, rows):
 
 
 def with_import(imported, rows, is_rounded):
-    """The rows of what `import` wrote. Samples may be rounded where a note says so."""
+    """The rows of what `import` wrote. Samples may be rounded to 16 bits where its note says so."""
     if imported.count != rows.count:
         yield told("rows imported", imported.count, rows.count)
     if imported.bits != rows.bits:

@@ -3,7 +3,7 @@ import os
 import resource
 import subprocess
 
-from against import keys_of, read_plainly, with_model, QUIET, UNTOLD
+from against import keys_of, read_plainly, with_model, OF_SIZE, QUIET, UNTOLD
 from views import Rows
 
 # Views by chance: each reads the same file as csv, so it is refused if csv is.
@@ -122,7 +122,7 @@ class Judge:
                 fault, answer.status, csv.status, there)
         elif answer.status == 0:
             told = keys_of(answer.out.decode("utf-8", "replace")) ^ keys_of(csv.said)
-            if told - UNTOLD:
+            if told - UNTOLD - OF_SIZE:
                 yield "import tells other notes than csv: %s" % sorted(told)
             done = self.run("check", new)
             if done.status != 0:

@@ -12,6 +12,8 @@ single text '--- file type: CFG ---\r\n' '--- file type: INF ---\r\n--- file typ
 single with-texts '--- file type: CFG ---\r\n' '--- file type: INF ---\r\n[A]\r\n--- file type: HDR ---\r\n--- told ---\r\n--- file type: DAT ASCII ---\r\n' ''
 single spelled '---file type: cfg---\r\n' '---FILE TYPE: DAT ASCII---\r\n' '\x1a'
 single dat-without-kind '--- file type: CFG ---\r\n' '--- file type: DAT ---\r\n' ''
+# the heading names another type than the data have
+single other-kind '--- file type: CFG ---\r\n' '--- file type: DAT BINARY ---\r\n' ''
 binary() { # name; the count that is said; what stands after the data
     mkdir "$folder/$1"
     cp $binary.cfg "$folder/$1/want.cfg"
@@ -23,6 +25,7 @@ binary counted ': 56' '--- file type: HDR ---\r\n'
 binary at-the-end ': 56' ''
 binary wrong-count ': 70' ''
 binary too-few ': 42' '--- file type: HDR ---\r\n'
+binary other-width '32: 56' ''
 for name in no-dat no-cfg; do
     mkdir "$folder/$name"
 done

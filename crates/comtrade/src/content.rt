@@ -3,8 +3,8 @@
 
 use crate::load::{Inputs, REFUSED, pair_of, put_import_fault, put_notes};
 use comtrade_diagnostics::{
-    Choices, ImportFault, Intended, Pair, Refusal, Repaired, Texts, intended_of, put_fault,
-    put_remarks, repaired_pair, repaired_single,
+    Choices, ImportFault, Intended, Pair, Refusal, Repaired, Samples, Texts, intended_of,
+    put_fault, put_remarks, repaired_pair, repaired_single,
 };
 use comtrade_format::File;
 use comtrade_io::{Part as Asked, ToolFault};
@@ -25,7 +25,7 @@ pub(crate) struct Reading<'a> {
     /// Only what the exact reader reads, as it reads it.
     is_strict: bool,
     encoding: Option<&'a str>,
-    /// Texts are spelled for people, not for a new pair.
+    /// Texts are spelled for people and samples have 32 bits, not those of a new pair.
     is_view: bool,
     /// What is odd about a pair that reads exactly is noted.
     has_remarks: bool,
@@ -57,6 +57,18 @@ impl<'a> Reading<'a> {
             encoding,
             is_view: true,
             has_remarks,
+        }
+    }
+
+    /// The choices for files that are repaired.
+    fn choices(self) -> Choices {
+        Choices {
+            samples: if self.is_view {
+                Samples::Shown
+            } else {
+                Samples::Written
+            },
+            ..Choices::default()
         }
     }
 }
@@ -95,9 +107,10 @@ fn told<A: Allocator + Copy>(
 fn single_in<A: Allocator + Copy>(
     alloc: A,
     pair: Pair<'_>,
+    reading: Reading<'_>,
     said: &mut Vec<u8, A>,
 ) -> Result<Option<Loaded<A>>, ToolFault> {
-    match repaired_single(alloc, pair.cfg, Choices::default()) {
+    match repaired_single(alloc, pair.cfg, reading.choices()) {
         Ok(repaired) => Ok(Some(told(repaired, Origin::Literal, said)?)),
         Err(Refusal::Fault(ImportFault::Memory)) => Err(ToolFault::Memory),
         Err(fault) => {
@@ -112,10 +125,11 @@ fn single_in<A: Allocator + Copy>(
 fn imported_in<A: Allocator + Copy>(
     alloc: A,
     pair: Pair<'_>,
+    reading: Reading<'_>,
     found: Fault,
     said: &mut Vec<u8, A>,
 ) -> Result<Option<Loaded<A>>, ToolFault> {
-    match repaired_pair(alloc, pair.cfg, pair.dat, Choices::default()) {
+    match repaired_pair(alloc, pair.cfg, pair.dat, reading.choices()) {
         Ok(repaired) => return Ok(Some(told(repaired, Origin::Imported, said)?)),
         Err(Refusal::Fault(ImportFault::Memory)) => return Err(ToolFault::Memory),
         Err(fault)
@@ -191,7 +205,7 @@ fn file_in<A: Allocator + Copy>(
         put_fault(alloc, said, pair, found)?;
         return Ok(None);
     }
-    imported_in(alloc, pair, found, said)
+    imported_in(alloc, pair, reading, found, said)
 }
 
 /// The file of a record, as `file_in`; of a single file as `import` reads it.
@@ -202,7 +216,7 @@ fn record_in<A: Allocator + Copy>(
     said: &mut Vec<u8, A>,
 ) -> Result<Option<Loaded<A>>, ToolFault> {
     if inputs.is_single() {
-        single_in(alloc, pair_of(inputs), said)
+        single_in(alloc, pair_of(inputs), reading, said)
     } else {
         file_in(alloc, pair_of(inputs), reading, said)
     }

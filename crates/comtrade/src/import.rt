@@ -158,7 +158,12 @@ fn import_spelled<R: Files + Input + Print + Eprint + AllocGlobal + Clone + Drop
             }
         },
     };
-    import_dated(rt, made, Choices { dates, encoding })
+    let choices = Choices {
+        dates,
+        encoding,
+        ..Choices::default()
+    };
+    import_dated(rt, made, choices)
 }
 
 /// Does what `comtrade import` asks for.

@@ -6,12 +6,13 @@ ghost use Rattle.comtrade_read.specs.Reads.{Reads};
 
 use crate::silent::{Refusal, Silent, silent_in};
 use crate::single::repaired_single;
-use comtrade_dialects::{Choices, ImportFault, Note, Notes, Why, is_sound, repaired};
+use comtrade_dialects::{Choices, ImportFault, Note, Notes, Samples, Why, is_sound, repaired};
 use comtrade_format::{File, WriteFault};
 use comtrade_read::{ReadFault, Written, one_file, read, written_of};
 use std::alloc::{Allocator, Global};
 
-/// A file of 1999, and notes on the repairs that gave it. There are no texts of it yet.
+/// A file as of 1999, and notes on the repairs that gave it. There are no texts of it yet. One that
+/// is shown may have samples that no file of 1999 can hold.
 #[derive(Drop)]
 pub struct Repaired<A: Allocator = Global> {
     pub file: File<A>,
@@ -69,9 +70,10 @@ pub(crate) fn told<A: Allocator + Copy>(
     dat: &[u8],
     file: File<A>,
     notes: Notes<A>,
+    samples: Samples,
 ) -> Result<Repaired<A>, Refusal> {
     let notes = notes.into_list();
-    match silent_in(alloc, dat, &file, &notes)? {
+    match silent_in(alloc, dat, &file, &notes, samples)? {
         Some(silent) => Err(Refusal::Silent(silent)),
         None => Ok(Repaired { file, notes }),
     }
@@ -86,7 +88,7 @@ pub fn repaired_pair<A: Allocator + Copy>(
 ) -> Result<Repaired<A>, Refusal> {
     let mut notes = Notes::new(alloc);
     match repaired(alloc, &mut notes, cfg, dat, choices) {
-        Ok(file) => told(alloc, dat, file, notes),
+        Ok(file) => told(alloc, dat, file, notes, choices.samples),
         Err(fault) => Err(Refusal::Fault(fault)),
     }
 }

@@ -1,9 +1,10 @@
 //! Decodes the samples of a data file a second time, apart from the importer: what stands at the
-//! place of each sample, and whether a file of 1999 can hold it as it is.
+//! place of each sample, and whether what is made of it can hold it as it is.
 
 use crate::own_numbers::{Found, float_of, long_of, short_of, text_of};
 use crate::untold::Sample;
 use byteorder::{BigEndian, ByteOrder, LittleEndian};
+use comtrade_dialects::Samples;
 use comtrade_values::{Items, trim};
 use memchr::memchr;
 use std::alloc::{AllocError, Allocator};
@@ -33,10 +34,12 @@ pub(crate) struct Layout {
     pub(crate) analog: usize,
     /// The number of status channels.
     pub(crate) status: usize,
+    /// Which samples what is made of them may have.
+    pub(crate) samples: Samples,
 }
 
-/// The samples of all rows; for each channel, whether it has a number that no file of 1999 can
-/// hold as it is.
+/// The samples of all rows; for each channel, whether it has a number that what is made of them
+/// cannot hold as it is.
 #[derive(Drop, Debug)]
 pub(crate) struct Own<A: Allocator> {
     pub(crate) rows: Vec<Items<Sample, A>, A>,
@@ -96,7 +99,7 @@ fn text_row<A: Allocator + Copy>(
     unfit: &mut [bool],
     line: &[u8],
     mark: u8,
-    has_nines: bool,
+    (has_nines, kind): (bool, Samples),
 ) -> Result<Vec<Sample, A>, AllocError> {
     let mut samples = Vec::with_capacity(alloc, unfit.len())?;
     let mut fields = line.split(|b| *b == mark);
@@ -105,7 +108,7 @@ fn text_row<A: Allocator + Copy>(
     for is_unfit in unfit.iter_mut() {
         let sample = match fields.next() {
             Some(field) => {
-                let found = text_of(inside(field), has_nines);
+                let found = text_of(inside(field), has_nines, kind);
                 *is_unfit = *is_unfit || found.is_unfit();
                 found.sample
             }
@@ -131,7 +134,8 @@ fn own_text<A: Allocator + Copy>(
     for line in without_end(text, mark).split(|b| *b == end) {
         let line = without_returns(line);
         if !trim(line).is_empty() {
-            let samples = text_row(alloc, &mut unfit, line, mark, has_nines)?;
+            let kind = (has_nines, layout.samples);
+            let samples = text_row(alloc, &mut unfit, line, mark, kind)?;
             rows.push(Items::of(samples))?;
         }
     }
@@ -166,7 +170,7 @@ fn found_at(row: &[u8], channel: usize, layout: Layout) -> Option<Found> {
     let is_big = layout.is_big;
     let at = channel.checked_mul(layout.width())?.checked_add(FRONT)?;
     match layout.form {
-        Form::Long => Some(long_of(long_at(row, at, is_big)?)),
+        Form::Long => Some(long_of(long_at(row, at, is_big)?, layout.samples)),
         Form::Float => Some(float_of(long_at(row, at, is_big)?)),
         _ => Some(short_of(word_at(row, at, is_big)?)),
     }

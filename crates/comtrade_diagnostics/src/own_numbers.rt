@@ -3,6 +3,7 @@
 ghost use Rattle.std.specs.Prelude.{◌≤◌};
 
 use crate::untold::Sample;
+use comtrade_dialects::Samples;
 use comtrade_values::integer_of;
 
 /// A sample, and whether it is spelled with a point or an exponent.
@@ -29,6 +30,9 @@ impl Found {
 /// The greatest sample of BINARY data; the least is the same below 0.
 const MOST_SHORT: i32 = 32_767;
 
+/// The greatest sample of 32 bits; the least is the same below 0.
+const MOST_LONG: i32 = 2_147_483_647;
+
 /// A whole number, or one beyond the bounds.
 fn within(number: i32, least: i32, most: i32) -> Sample {
     if least <= number && number <= most {
@@ -49,12 +53,16 @@ pub(crate) fn short_of(bits: u16) -> Found {
 }
 
 /// A sample of BINARY32 data.
-pub(crate) fn long_of(bits: u32) -> Found {
+pub(crate) fn long_of(bits: u32, samples: Samples) -> Found {
     let number = bits.cast_signed();
+    let most = match samples {
+        Samples::Written => MOST_SHORT,
+        Samples::Shown => MOST_LONG,
+    };
     Found::plain(if number == i32::MIN {
         Sample::Absent
     } else {
-        within(number, -MOST_SHORT, MOST_SHORT)
+        within(number, -most, most)
     })
 }
 
@@ -76,10 +84,14 @@ fn whole_of(bits: u32, exponent: u32) -> Sample
     Sample::Whole(if bits >> 31 == 1 { -size } else { size })
 }
 
-/// A sample of FLOAT32 data, by its bits. Infinities and what is no number are absent.
+/// The bits of the float 3.4E38, from which on floats are marks of missing samples.
+const MARK: u32 = 0x7f7f_c99e;
+
+/// A sample of FLOAT32 data, by its bits. Infinities, what is no number, and magnitudes from 3.4E38
+/// on are absent.
 pub(crate) fn float_of(bits: u32) -> Found {
     let exponent = (bits >> 23) & 0xff;
-    Found::plain(if exponent == 0xff {
+    Found::plain(if MARK <= bits & 0x7fff_ffff {
         Sample::Absent
     } else if 127 <= exponent && exponent <= 141 {
         whole_of(bits, exponent)
@@ -104,14 +116,23 @@ fn is_numeric(text: &[u8]) -> bool {
             .all(|b| b.is_ascii_digit() || b"+-.,eEdD".contains(b))
 }
 
+/// A number in ASCII data as a sample.
+fn number_of(number: i128, samples: Samples) -> Sample {
+    let (least, most) = match samples {
+        Samples::Written => (-MOST_TEXT, MOST_TEXT - 1),
+        Samples::Shown => (-MOST_LONG, MOST_LONG),
+    };
+    match i32::try_from(number) {
+        Ok(number) => within(number, least, most),
+        Err(_) => Sample::Beyond,
+    }
+}
+
 /// A sample of ASCII data. `has_nines`: 99,999 is a sample.
-pub(crate) fn text_of(text: &[u8], has_nines: bool) -> Found {
+pub(crate) fn text_of(text: &[u8], has_nines: bool, samples: Samples) -> Found {
     match integer_of(text) {
         Some(MISSING) if !has_nines => Found::plain(Sample::Absent),
-        Some(number) => Found::plain(match i32::try_from(number) {
-            Ok(number) => within(number, -MOST_TEXT, MOST_TEXT - 1),
-            Err(_) => Sample::Beyond,
-        }),
+        Some(number) => Found::plain(number_of(number, samples)),
         None if is_numeric(text) => Found {
             sample: Sample::Beyond,
             is_pointed: true,

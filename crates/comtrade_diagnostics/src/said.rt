@@ -2,7 +2,7 @@
 
 use crate::covers::Said;
 use crate::own_data::{Form, Layout};
-use comtrade_dialects::{Key, Note};
+use comtrade_dialects::{Key, Note, Samples};
 use comtrade_format::{Head, Kind};
 use comtrade_values::{Items, integer_of, trim};
 use std::alloc::{AllocError, Allocator};
@@ -53,7 +53,11 @@ pub(crate) fn all_said<A: Allocator + Copy>(
 }
 
 /// How the data lie from which this head and these notes were made.
-pub(crate) fn layout_of<A: Allocator>(head: &Head<A>, notes: &[Note<A>]) -> Layout {
+pub(crate) fn layout_of<A: Allocator>(
+    head: &Head<A>,
+    notes: &[Note<A>],
+    samples: Samples,
+) -> Layout {
     let form = match head.kind {
         Kind::Ascii => Form::Text {
             has_nines: has(notes, Key::Revision2013),
@@ -68,5 +72,6 @@ pub(crate) fn layout_of<A: Allocator>(head: &Head<A>, notes: &[Note<A>]) -> Layo
         spare: if has(notes, Key::RowSize) { 2 } else { 0 },
         analog: head.analog.items().len(),
         status: head.status.items().len(),
+        samples,
     }
 }

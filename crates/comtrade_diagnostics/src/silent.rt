@@ -3,7 +3,7 @@
 use crate::own_data::{Form, own_of};
 use crate::said::{all_said, has, layout_of};
 use crate::untold::first_untold;
-use comtrade_dialects::{ImportFault, Key, Note, narrow};
+use comtrade_dialects::{ImportFault, Key, Note, Samples, narrow};
 use comtrade_format::File;
 use comtrade_values::Memory as NoMemory;
 use std::alloc::{AllocError, Allocator};
@@ -69,8 +69,9 @@ pub(crate) fn silent_in<A: Allocator + Copy>(
     dat: &[u8],
     file: &File<A>,
     notes: &[Note<A>],
+    samples: Samples,
 ) -> Result<Option<Silent>, AllocError> {
-    let layout = layout_of(&file.head, notes);
+    let layout = layout_of(&file.head, notes, samples);
     let narrowed = match layout.form {
         Form::Text { .. } => narrow(alloc, dat)?,
         _ => None,

@@ -3,7 +3,7 @@
 use crate::importing::{Repaired, told};
 use crate::silent::Refusal;
 use comtrade_dialects::{
-    Choices, Key, Notes, Place, cut, narrow, repaired, tell_sections, unmarked,
+    Choices, Key, Notes, Place, cut, narrow, repaired, tell_kind, tell_sections, unmarked,
 };
 use std::alloc::Allocator;
 
@@ -17,7 +17,8 @@ fn single<A: Allocator + Copy>(
     let sections = cut(text)?;
     tell_sections(alloc, &mut notes, sections)?;
     let file = repaired(alloc, &mut notes, sections.cfg, sections.dat, choices)?;
-    told(alloc, sections.dat, file, notes)
+    tell_kind(alloc, &mut notes, sections.kind, file.head.kind)?;
+    told(alloc, sections.dat, file, notes, choices.samples)
 }
 
 /// The choices for a text that says its own encoding.

@@ -12,11 +12,11 @@ use std::alloc::Allocator;
 /// A sample as the data have it.
 #[derive(Clone, Copy, Debug, PartialEq, Eq)]
 pub enum Sample {
-    /// A whole number that a file of 1999 can hold.
+    /// A whole number that can be held as it is.
     Whole(i32),
     /// No number.
     Absent,
-    /// A number that no file of 1999 can hold as it is.
+    /// A number that cannot be held as it is.
     Beyond,
 }
 

@@ -1,11 +1,12 @@
 //! Builds a file of 1999 from what was read.
 
 use crate::data::plan_of;
-use crate::draft::{Channels, Draft, Range};
+use crate::draft::{Channels, Draft, Range, Revision};
 use crate::fault::{ImportFault, Why};
 use crate::kinds::Form;
 use crate::marks::marks_of;
 use crate::note::{Notes, Place};
+use crate::pair::Samples;
 use crate::readings::rows_of;
 use crate::row::Plan;
 use crate::scaled::{settle_channels, tell_errors};
@@ -160,7 +161,7 @@ fn ranges_of<A: Allocator + Copy>(
         let low = match said.range {
             Range::Said => i64::from(channel.min),
             Range::Unsigned => -99_999,
-            Range::Empty | Range::Other => i64::MIN,
+            Range::Empty | Range::Long(_, _) | Range::Other => i64::MIN,
         };
         ranges
             .unsigned
@@ -175,9 +176,13 @@ fn ground_of<'a, A: Allocator>(
     draft: &Draft<A>,
     plan: Plan<'a>,
     ranges: &'a Ranges<A>,
+    samples: Samples,
 ) -> Ground<'a> {
+    let is_long = matches!(plan.form(), Form::Binary32 | Form::Float32);
     Ground {
         plan,
+        samples,
+        has_long_ranges: is_long || draft.revision == Revision::Of2013,
         counts: draft.channels.counts(),
         bounds: bounds_of(plan.form().is_text()),
         unsigned: &ranges.unsigned,
@@ -192,10 +197,11 @@ pub(crate) fn file_of<A: Allocator + Copy>(
     notes: &mut Notes<A>,
     mut draft: Draft<A>,
     dat: &[u8],
+    samples: Samples,
 ) -> Result<File<A>, ImportFault> {
     let plan = plan_of(notes, &draft, dat)?;
     let ranges = ranges_of(alloc, &draft, plan)?;
-    let ground = ground_of(&draft, plan, &ranges);
+    let ground = ground_of(&draft, plan, &ranges, samples);
     let mut body = body_of(alloc, notes, &mut draft, ground)?;
     let Ok(nrates) = u32::try_from(body.rates.len()) else {
         return Err(ImportFault::Whole(Why::ManyRates));

@@ -105,3 +105,24 @@ impl<'a> Cursor<'a> {
         self.line.saturating_add(1) // (memory holds fewer than 2^64 lines)
     }
 }
+
+/// The first line of a text. It ends at a line feed, or at a carriage return that is not part of
+/// such an end.
+pub(crate) fn first_line(text: &[u8]) -> Option<&[u8]> {
+    let Some((line, rest)) = around(text, b'\r') else {
+        let (line, _) = around(text, b'\n')?;
+        return Some(line);
+    };
+    match around(text, b'\n') {
+        Some((by_feed, _)) if by_feed.len() < line.len() => Some(by_feed),
+        Some((by_feed, _)) if rest.starts_with(b"\n") || rest.starts_with(b"\r\n") => Some(by_feed),
+        _ => Some(line),
+    }
+}
+
+/// The rest of a text after its first line and one byte that ends it.
+pub(crate) fn behind<'a>(text: &'a [u8], line: &[u8]) -> Option<&'a [u8]> {
+    let (_, rest) = text.split_at_checked(line.len())?;
+    let (_, rest) = rest.split_first()?;
+    Some(rest)
+}

@@ -22,7 +22,9 @@ pub(crate) enum Range {
     Said,
     /// It is empty.
     Empty,
-    /// In a form or with numbers that 1999 cannot hold.
+    /// As whole numbers of 32 bits, of which 1999 cannot hold one.
+    Long(i32, i32),
+    /// In a form or with numbers that 32 bits cannot hold.
     Other,
     /// From at least 0 to more than 32,767, as for unsigned samples.
     Unsigned,

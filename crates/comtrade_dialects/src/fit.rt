@@ -1,10 +1,10 @@
 //! Converts samples to whole numbers that a file of 1999 can hold, with the scale that
 //! restores them.
 
-use crate::nearest::over;
-use crate::num::{Num, exact_of, size_of_float, ten_to};
+use crate::num::{Num, exact_of, ten_to};
 use crate::scale::Scale;
 use crate::span::{Bounds, Span};
+use crate::steps::{Steps, exact_steps_of, long_steps_of, steps_of};
 use comtrade_values::Exact;
 
 /// How the samples of a channel become whole numbers.
@@ -16,102 +16,21 @@ pub(crate) enum Fit {
     Shift(i32),
     /// They are multiplied by a power of ten.
     Tens(Scale),
+    /// The same, and some have more bits than a file of 1999 holds.
+    LongTens(Scale),
+    /// They are whole numbers of steps on both sides of the middle.
+    Exact(Steps),
     /// They are rounded to steps on both sides of the middle.
     Steps(Steps),
     /// All are the same; b holds the value.
     Flat(Exact),
 }
 
-/// Steps of `unit` from `middle`, both in the scale's unit; `inverse` is 2^64 / unit, rounded down,
-/// or one less.
-#[derive(Clone, Copy)]
-pub(crate) struct Steps {
-    pub scale: Scale,
-    pub middle: i64,
-    pub unit: i64,
-    inverse: u64,
-}
-
-/// The maximum number of steps on one side.
-const MOST: u64 = 32_767;
-
-/// A positive number as a multiple of a power of ten with at most nine digits, rounded up, and
-/// that power.
-fn nine_digits(n: i64) -> Option<(i64, i64)> {
-    let mut power = 1i64;
-    for _ in 0..10 {
-        if n.checked_div(power)? < 999_999_999 {
-            break;
-        }
-        power = power.checked_mul(10)?;
-    }
-    let up = n.checked_add(power.checked_sub(1)?)?.checked_div(power)?;
-    Some((up.checked_mul(power)?, power))
-}
-
-fn steps_of(span: &Span) -> Option<Steps> {
-    let (low, high) = span.reach.ends()?;
-    let least = (high.checked_sub(low)? / 65_533).checked_add(1)?;
-    let (unit, power) = nine_digits(least)?;
-    let sum = high.checked_add(low)?;
-    let middle = over(sum / 2, power)?.checked_mul(power)?;
-    Some(Steps {
-        scale: span.scale,
-        middle,
-        unit,
-        inverse: u64::MAX.checked_div(unit.unsigned_abs())?,
-    })
-}
-
-/// The upper 64 bits of a product.
-fn upper(a: u64, b: u64) -> u64 {
-    ((u128::from(a) * u128::from(b)) >> 64) as u64
-}
-
-impl Steps {
-    /// The number of steps nearest to a number in the scale's unit (halves away from 0, at most
-    /// 32,767), and the error; None if 64 bits cannot hold the number's distance from the middle.
-    /// It multiplies by the inverse, which gives at most two too few, because a division for each
-    /// sample would take longer than everything else.
-    fn nearest(self, near: i64) -> Option<(i64, i64)> {
-        let from = near.checked_sub(self.middle)?;
-        let unit = self.unit.unsigned_abs();
-        let half = unit / 2;
-        let size = from.unsigned_abs().checked_add(half)?;
-        let mut count = upper(size, self.inverse);
-        let mut rest = size.checked_sub(count.checked_mul(unit)?)?;
-        for _ in 0..2 {
-            if unit <= rest {
-                count = count.checked_add(1)?;
-                rest -= unit;
-            }
-        }
-        let mut off = rest.abs_diff(half);
-        if MOST < count {
-            count = MOST;
-            off = from.unsigned_abs().checked_sub(MOST.checked_mul(unit)?)?;
-        }
-        let count = i64::try_from(count).ok()?;
-        let count = if from < 0 {
-            count.checked_neg()?
-        } else {
-            count
-        };
-        Some((count, i64::try_from(off).ok()?))
-    }
-
-    /// The same for a float, if 64 bits are enough.
-    fn of_float(self, bits: u32) -> Option<(i64, i64)> {
-        let size = size_of_float(bits)?;
-        let near = self.scale.near_in_64(u64::from(size.mant), size.two)?;
-        let near = if bits >> 31 == 1 {
-            near.checked_neg()?
-        } else {
-            near
-        };
-        self.nearest(near)
-    }
-}
+/// The whole numbers of 32 bits but the least one, which marks a missing value in BINARY32 data.
+const LONG: Bounds = Bounds {
+    low: -2_147_483_647,
+    high: 2_147_483_647,
+};
 
 /// The power of ten that turns all samples into whole numbers within the bounds.
 fn tens_of(span: &Span, bounds: Bounds) -> Option<Scale> {
@@ -170,10 +89,32 @@ pub(crate) fn fit_of(span: &Span, bounds: Bounds, is_unsigned: bool) -> Option<F
     if let Some(value) = flat_of(span) {
         return Some(Fit::Flat(value));
     }
-    match tens_of(span, bounds) {
-        Some(scale) => Some(Fit::Tens(scale)),
+    if let Some(scale) = tens_of(span, bounds) {
+        return Some(Fit::Tens(scale));
+    }
+    match exact_steps_of(span) {
+        Some(steps) => Some(Fit::Exact(steps)),
         None => Some(Fit::Steps(steps_of(span)?)),
     }
+}
+
+/// How the samples of a channel become whole numbers of 32 bits; None if they are too large.
+pub(crate) fn long_fit_of(span: &Span) -> Option<Fit> {
+    if span.is_whole && LONG.low <= span.least && span.most <= LONG.high {
+        return Some(Fit::Same);
+    }
+    if let Some(value) = flat_of(span) {
+        return Some(Fit::Flat(value));
+    }
+    if let Some(scale) = tens_of(span, LONG) {
+        return Some(Fit::LongTens(scale));
+    }
+    let (steps, is_exact) = long_steps_of(span)?;
+    Some(if is_exact {
+        Fit::Exact(steps)
+    } else {
+        Fit::Steps(steps)
+    })
 }
 
 impl Fit {
@@ -183,8 +124,8 @@ impl Fit {
         match self {
             Fit::Same => Some((num.whole()?, 0)),
             Fit::Shift(by) => Some((num.whole()?.checked_sub(i64::from(*by))?, 0)),
-            Fit::Tens(scale) => Some((scale.nearest(num)?, 0)),
-            Fit::Steps(steps) => steps.nearest(steps.scale.nearest(num)?),
+            Fit::Tens(scale) | Fit::LongTens(scale) => Some((scale.nearest(num)?, 0)),
+            Fit::Exact(steps) | Fit::Steps(steps) => steps.nearest(steps.scale.nearest(num)?),
             Fit::Flat(_) => Some((0, 0)),
         }
     }
@@ -192,7 +133,7 @@ impl Fit {
     /// The same for a float, if the short way (steps, in 64 bits) is possible.
     pub(crate) fn whole_of_float(&self, bits: u32) -> Option<(i64, i64)> {
         match self {
-            Fit::Steps(steps) => steps.of_float(bits),
+            Fit::Exact(steps) | Fit::Steps(steps) => steps.of_float(bits),
             _ => None,
         }
     }
@@ -216,14 +157,14 @@ impl Fit {
                     places: 0,
                 })?)?,
             )),
-            Fit::Tens(scale) => Some((
+            Fit::Tens(scale) | Fit::LongTens(scale) => Some((
                 Exact {
                     units: a.units,
                     places: a.places.checked_add(scale.shift)?,
                 },
                 b,
             )),
-            Fit::Steps(steps) => {
+            Fit::Exact(steps) | Fit::Steps(steps) => {
                 let places = steps.scale.shift;
                 let unit = Exact {
                     units: i128::from(steps.unit),

@@ -2,6 +2,7 @@
 
 use crate::num::num_of_float;
 use crate::span::{Bounds, Span};
+use std::alloc::{AllocError, Allocator};
 
 /// A summary of the floats of a channel so far.
 #[derive(Clone, Copy)]
@@ -70,4 +71,16 @@ impl FloatSpan {
         span.settle();
         span
     }
+}
+
+/// The initial spans of so many channels.
+pub(crate) fn float_spans<A: Allocator>(
+    alloc: A,
+    count: usize,
+) -> Result<Vec<FloatSpan, A>, AllocError> {
+    let mut spans = Vec::new(alloc);
+    for _ in 0..count {
+        spans.push(FloatSpan::new())?;
+    }
+    Ok(spans)
 }

@@ -131,7 +131,7 @@ pub enum Key {
     TimesUnknown,
     /// Samples with decimals became whole numbers; a was adjusted.
     ValuesDecimal,
-    /// Samples over 16 bits (BINARY) or five digits (ASCII) were scaled; a was adjusted.
+    /// Samples have over 16 bits (BINARY) or five digits (ASCII); a written pair has them scaled.
     ValuesWide,
     /// Samples are unsigned; b was adjusted.
     ValuesUnsigned,
@@ -163,6 +163,8 @@ pub enum Key {
     CffForm,
     /// The byte count of the DAT section is wrong.
     CffCount,
+    /// The heading of the DAT section names another type than its data have.
+    CffKind,
     /// The INF section was left out.
     InfDropped,
     /// The HDR section was left out.
@@ -182,7 +184,7 @@ impl Key {
 }
 
 /// All keys.
-static ALL: [Key; 82] = [
+static ALL: [Key; 83] = [
     Key::Revision1991,
     Key::Revision2013,
     Key::RevisionAbsent,
@@ -263,6 +265,7 @@ static ALL: [Key; 82] = [
     Key::Cff,
     Key::CffForm,
     Key::CffCount,
+    Key::CffKind,
     Key::InfDropped,
     Key::HdrDropped,
 ];

@@ -86,6 +86,7 @@ impl Key {
             Key::Cff => "cff",
             Key::CffForm => "cff-form",
             Key::CffCount => "cff-count",
+            Key::CffKind => "cff-kind",
             Key::InfDropped => "inf-dropped",
             Key::HdrDropped => "hdr-dropped",
         }
@@ -163,7 +164,7 @@ impl Key {
             Key::TimesUnknown => "neither time stamps nor a rate: the rows have no times",
             Key::ValuesDecimal => "samples with decimals became whole numbers; a was adjusted",
             Key::ValuesWide =>
-                "samples over 16 bits (BINARY) or five digits (ASCII) were scaled; a was adjusted",
+                "samples have over 16 bits (BINARY) or five digits (ASCII); a written pair has them scaled",
             Key::ValuesUnsigned => "samples are unsigned; b was adjusted",
             Key::ValuesRounded => "values are not held exactly; the greatest error of each channel",
             Key::MissingMarks => "missing values had a mark other than that of the standard",
@@ -179,6 +180,7 @@ impl Key {
             Key::Cff => "a single file was split into its sections",
             Key::CffForm => "section separators are not spelled as in 2013",
             Key::CffCount => "the byte count of the DAT section is wrong",
+            Key::CffKind => "the heading of the DAT section names another type",
             Key::InfDropped => "the INF section was left out",
             Key::HdrDropped => "the HDR section was left out",
         }

@@ -93,6 +93,26 @@ impl Num {
         self.twos() * 30_103 / 100_000 + 1
     }
 
+    /// Whether the magnitude of a decimal is so great that it marks a missing value: from 3.4E38 on.
+    pub(crate) fn is_mark(self) -> bool {
+        if self.ten < 20 || self.mant == 0 {
+            return false; // its digits are below 10^18
+        }
+        let order = self.order();
+        if order != 39 {
+            return 39 < order;
+        }
+        let size = self.mant.unsigned_abs();
+        let front = match ten_to(37 - self.ten) {
+            Some(part) => size.checked_div(part.unsigned_abs()),
+            None => size.checked_mul(10),
+        };
+        match front {
+            Some(front) => 34 <= front,
+            None => true,
+        }
+    }
+
     /// The least n for which the magnitude is below 2^n, for a number that is no multiple of a
     /// power of ten.
     fn twos(self) -> i32
@@ -164,11 +184,22 @@ pub(crate) struct FloatSize {
     ghost near: { IsWithin 149 two },
 }
 
-/// The magnitude of a 32-bit float; None for infinities and NaN.
+/// The magnitude from which on floats are marks of missing values: 3.4E38. The greatest float, which
+/// writers use as a mark, is a little more.
+const FLOAT_MARK: u32 = 0x7f7f_c99e;
+
+/// Whether a 32-bit float is a number so great that it marks a missing value.
+pub(crate) fn is_float_mark(bits: u32) -> bool {
+    let size = bits & 0x7fff_ffff;
+    FLOAT_MARK <= size && size < 0x7f80_0000
+}
+
+/// The magnitude of a 32-bit float; None for infinities, NaN and marks of missing values.
 pub(crate) fn size_of_float(bits: u32) -> Option<FloatSize> {
     let exponent = bits >> 23 & 0xff;
     let fraction = bits & 0x7f_ffff;
     match exponent {
+        _ if FLOAT_MARK <= bits & 0x7fff_ffff => None,
         255 => None,
         0 => Some(FloatSize {
             mant: fraction,

@@ -1,7 +1,6 @@
 //! Reads a pair as a file, with all repairs that it needs.
 
 use crate::build::file_of;
-use crate::cursor::around;
 use crate::dates::Order;
 use crate::draft::Draft;
 use crate::encoding::{narrow, without_mark};
@@ -14,23 +13,64 @@ use comtrade_format::File;
 use comtrade_letters::{Encoding, in_utf8};
 use std::alloc::Allocator;
 
+/// The samples that a file may have.
+#[derive(Clone, Copy, Debug, PartialEq, Eq)]
+pub enum Samples {
+    /// Those that a file of 1999 holds: of 16 bits in BINARY data, of five digits in ASCII data.
+    Written,
+    /// Whole numbers of 32 bits, for a record that is shown and not written.
+    Shown,
+}
+
+impl Default for Samples {
+    fn default() -> Samples {
+        Samples::Written
+    }
+}
+
 /// Choices for a file that can be read in two ways.
 #[derive(Clone, Copy, Debug, Default)]
 pub struct Choices {
+    /// The samples that the result may have.
+    pub samples: Samples,
     /// The order of day and month in dates, which overrides that of the revision and the dates.
     pub dates: Option<Order>,
     /// The encoding of a configuration file that is neither UTF-16 nor marked as UTF-8.
     pub encoding: Option<Encoding>,
 }
 
-/// The text before the first byte 1A of a configuration file, without empty lines at its end.
+/// Where a byte 1A ends a configuration file: the first one at the start of a line, or without a
+/// comma after it in its line. Another one is part of a text.
+fn end_mark(text: &[u8]) -> Option<usize> {
+    let mut found: Option<usize> = None;
+    let mut is_start = true;
+    for (i, b) in text.iter().enumerate() {
+        match *b {
+            0x1a if is_start => return Some(i),
+            0x1a if found.is_none() => found = Some(i),
+            b',' => found = None,
+            b'\r' | b'\n' if found.is_some() => return found,
+            _ => {}
+        }
+        is_start = *b == b'\r' || *b == b'\n';
+    }
+    found
+}
+
+/// The text before the byte 1A that ends a configuration file; None if there is none.
+fn before_mark(text: &[u8]) -> Option<&[u8]> {
+    let (front, _) = text.split_at_checked(end_mark(text)?)?;
+    Some(front)
+}
+
+/// The text before the byte 1A that ends a configuration file, without empty lines at its end.
 fn before_end<'a, A: Allocator + Copy>(
     notes: &mut Notes<A>,
     text: &'a [u8],
 ) -> Result<&'a [u8], ImportFault> {
     let place = Place::Whole("configuration file");
-    let text = match around(text, 0x1a) {
-        Some((text, _)) => {
+    let text = match before_mark(text) {
+        Some(text) => {
             notes.tell(Key::Cfg1a, place, &[])?;
             text
         }
@@ -120,10 +160,11 @@ fn file_of_text<A: Allocator + Copy>(
     notes: &mut Notes<A>,
     draft: Draft<A>,
     dat: &[u8],
+    samples: Samples,
 ) -> Result<File<A>, ImportFault> {
     let narrowed = narrow(alloc, dat)?;
     let text = text_in(notes, "data file", dat, &narrowed)?;
-    file_of(alloc, notes, draft, text)
+    file_of(alloc, notes, draft, text, samples)
 }
 
 /// Reads a pair as a file, with all repairs that it needs, and notes each.
@@ -140,8 +181,8 @@ pub fn repaired<A: Allocator + Copy>(
         None => true,
     };
     if is_text {
-        file_of_text(alloc, notes, draft, dat)
+        file_of_text(alloc, notes, draft, dat, choices.samples)
     } else {
-        file_of(alloc, notes, draft, dat)
+        file_of(alloc, notes, draft, dat, choices.samples)
     }
 }

@@ -20,6 +20,17 @@ fn bound_of(text: &[u8]) -> Option<i32> {
     }
 }
 
+/// A bound of samples of 32 bits.
+fn long_bound(text: &[u8]) -> Option<i32> {
+    i32::try_from(integer_of(text)?).ok()
+}
+
+/// A range of whole numbers of 32 bits.
+fn long_range(low: &[u8], high: &[u8]) -> Option<(i32, i32)> {
+    let (low, high) = (long_bound(low)?, long_bound(high)?);
+    if low <= high { Some((low, high)) } else { None }
+}
+
 /// A bound in another form, as a whole number if 1999 can hold it.
 fn loose_bound(mark: u8, line: u64, text: &[u8]) -> Result<Option<i32>, ImportFault> {
     let Some(spelled) = spelled_of(text, mark == b';') else {
@@ -57,6 +68,9 @@ pub(crate) fn range_of<A: Allocator + Copy>(
                 Range::Said
             },
         ));
+    }
+    if let Some((low, high)) = long_range(low, high) {
+        return Ok((-32_767, 32_767, Range::Long(low, high)));
     }
     let low = loose_bound(mark, shape.line, low)?;
     let high = loose_bound(mark, shape.line, high)?;

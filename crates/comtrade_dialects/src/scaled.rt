@@ -2,10 +2,11 @@
 
 use crate::draft::{Range, Said};
 use crate::fault::{ImportFault, Why};
-use crate::fit::{Fit, fit_of};
+use crate::fit::{Fit, fit_of, long_fit_of};
 use crate::key::Key;
 use crate::kinds::Form;
 use crate::note::{Notes, Place};
+use crate::pair::Samples;
 use crate::span::Span;
 use crate::survey::{Ground, Survey};
 use comtrade_values::{Decimal, Exact, put, put_decimal};
@@ -25,12 +26,17 @@ pub(crate) struct Made {
 
 /// The range of the whole numbers that the samples become.
 fn range_for(fit: &Fit, is_text: bool) -> (i32, i32) {
-    if is_text && !fit.is_rounded() {
-        (-99_999, 99_998)
-    } else {
-        (-32_767, 32_767)
+    match fit {
+        Fit::LongTens(_) => LONG_RANGE,
+        Fit::Exact(steps) | Fit::Steps(steps) if steps.most == LONG_RANGE.1 => LONG_RANGE,
+        Fit::Steps(_) => (-32_767, 32_767),
+        _ if is_text => (-99_999, 99_998),
+        _ => (-32_767, 32_767),
     }
 }
+
+/// Whole numbers of 32 bits.
+const LONG_RANGE: (i32, i32) = (-2_147_483_647, 2_147_483_647);
 
 /// Sets the range of a channel whose samples stay unchanged, if its own range is unusable.
 fn set_same<A: Allocator + Copy>(
@@ -38,19 +44,43 @@ fn set_same<A: Allocator + Copy>(
     channel: &mut AnalogChannel<A>,
     said: Said,
     span: &Span,
-    is_text: bool,
+    ground: Ground<'_>,
 ) -> Result<(), ImportFault> {
-    if said.range == Range::Other {
-        notes.tell(Key::RangeForm, Place::Cfg(said.line), &[])?;
+    let is_shown = ground.samples == Samples::Shown && ground.has_long_ranges;
+    match said.range {
+        Range::Said | Range::Unsigned => return Ok(()),
+        Range::Long(low, high) if is_shown => {
+            channel.min = low;
+            channel.max = high;
+            return Ok(());
+        }
+        Range::Empty => {}
+        Range::Long(_, _) | Range::Other => {
+            notes.tell(Key::RangeForm, Place::Cfg(said.line), &[])?;
+        }
     }
-    let holds = i64::from(channel.min) <= span.least && span.most <= i64::from(channel.max);
-    if said.range == Range::Said || said.range == Range::Unsigned || holds {
+    if i64::from(channel.min) <= span.least && span.most <= i64::from(channel.max) {
         return Ok(());
     }
-    let (low, high) = range_for(&Fit::Same, is_text);
+    let (low, high) = if span.fits {
+        range_for(&Fit::Same, ground.is_text())
+    } else {
+        LONG_RANGE
+    };
     channel.min = low;
     channel.max = high;
     Ok(())
+}
+
+/// How a channel's samples become whole numbers: as a file of 1999 holds them, unless that rounds
+/// them and they are only shown. None if they are too large.
+fn choice_of(span: &Span, is_unsigned: bool, ground: Ground<'_>) -> Option<Fit> {
+    let written = fit_of(span, ground.bounds, is_unsigned);
+    match written {
+        Some(fit) if !fit.is_rounded() => Some(fit),
+        _ if ground.samples == Samples::Shown => long_fit_of(span),
+        _ => written,
+    }
 }
 
 /// A bound of a range less a shift, within those that 1999 can hold.
@@ -96,8 +126,7 @@ fn made_of<A: Allocator + Copy>(
     place: (bool, Ground<'_>),
 ) -> Result<Made, ImportFault> {
     let (is_unsigned, ground) = place;
-    let is_text = ground.is_text();
-    let Some(fit) = fit_of(span, ground.bounds, is_unsigned) else {
+    let Some(fit) = choice_of(span, is_unsigned, ground) else {
         return Err(ImportFault::Cfg(said.line, Why::Scale));
     };
     let made = Made {
@@ -107,30 +136,40 @@ fn made_of<A: Allocator + Copy>(
         shift: span.scale.shift,
     };
     if made.fit.is_same() {
-        set_same(notes, channel, said, span, is_text)?;
+        set_same(notes, channel, said, span, ground)?;
     } else {
-        set_other(channel, said, &made.fit, is_text)?;
+        set_other(channel, said, &made.fit, ground.is_text())?;
     }
     Ok(made)
+}
+
+/// Whether the samples of a channel have more digits than they may have: scaled for a pair, or kept
+/// in what is shown.
+fn is_wide(span: &Span, fit: &Fit, ground: Ground<'_>) -> bool {
+    if fit.is_same() {
+        !span.fits && !ground.has_long_ranges
+    } else {
+        span.is_whole
+    }
 }
 
 /// Notes how the samples change, by the form in which they were found.
 fn tell_samples<A: Allocator + Copy>(
     notes: &mut Notes<A>,
-    form: Form,
+    ground: Ground<'_>,
     survey: &Survey<A>,
     made: &[Made],
 ) -> Result<(), ImportFault> {
     if survey.has_points {
         notes.tell(Key::ValuesDecimal, Place::Whole("data file"), &[])?;
     }
-    if form == Form::Float32 {
+    if ground.plan.form() == Form::Float32 {
         return Ok(());
     }
     for (number, (span, made)) in (1u64..).zip(survey.spans.iter().zip(made.iter())) {
         if let Fit::Shift(_) = made.fit {
             notes.tell(Key::ValuesUnsigned, Place::Channel(number), &[])?;
-        } else if span.is_whole && !made.fit.is_same() {
+        } else if is_wide(span, &made.fit, ground) {
             notes.tell(Key::ValuesWide, Place::Channel(number), &[])?;
         }
     }
@@ -154,7 +193,7 @@ pub(crate) fn settle_channels<A: Allocator + Copy>(
         let is_unsigned = ground.unsigned.get(i).copied() == Some(true);
         list.push(made_of(notes, channel, *said, span, (is_unsigned, ground))?)?;
     }
-    tell_samples(notes, ground.plan.form(), survey, &list)?;
+    tell_samples(notes, ground, survey, &list)?;
     Ok(list)
 }
 

@@ -1,6 +1,6 @@
 //! Splits a single file (.cff) of 2013 into its sections (IEC 60255-24:2013, 10).
 
-use crate::cursor::around;
+use crate::cursor::{behind, first_line};
 use crate::fault::{ImportFault, Why};
 use crate::kinds::form_of;
 use crate::text::{before_any, has_only};
@@ -22,6 +22,8 @@ enum Section {
 #[derive(Clone, Copy)]
 struct Separator<'a> {
     section: Section,
+    /// The type of data that it names.
+    kind: &'a [u8],
     /// The text after the line.
     rest: &'a [u8],
     /// It has the standard form.
@@ -33,6 +35,8 @@ struct Separator<'a> {
 pub struct Sections<'a> {
     pub cfg: &'a [u8],
     pub dat: &'a [u8],
+    /// The type of data that the heading of DAT names; empty if there is none.
+    pub kind: &'a [u8],
     /// An INF section has text; `has_hdr` is the same for HDR.
     pub has_inf: bool,
     pub has_hdr: bool,
@@ -121,6 +125,15 @@ fn has_lowercase(text: &[u8]) -> bool {
     false
 }
 
+/// The type of data that the text between the dashes of a line names; empty if there is none.
+fn kind_in(inner: &[u8]) -> &[u8] {
+    let (_, rest) = word_of(inner);
+    let (_, rest) = word_of(rest);
+    let (_, rest) = word_of(after_colon(rest));
+    let (kind, _) = word_of(after_colon(rest));
+    kind
+}
+
 /// Whether a line has the standard form.
 fn is_usual(line: &[u8], section: Section) -> bool {
     let Some(body) = line.strip_prefix(b"--- file type: ") else {
@@ -129,27 +142,6 @@ fn is_usual(line: &[u8], section: Section) -> bool {
     let names_kind = section != Section::Text || body.starts_with(b"DAT ASCII");
     let is_framed = line.ends_with(b" ---");
     is_framed && names_kind && section != Section::Bytes(None) && !has_lowercase(body)
-}
-
-/// The first line of a text. It ends at a line feed, or at a carriage return that is not part of
-/// such an end.
-fn first_line(text: &[u8]) -> Option<&[u8]> {
-    let Some((line, rest)) = around(text, b'\r') else {
-        let (line, _) = around(text, b'\n')?;
-        return Some(line);
-    };
-    match around(text, b'\n') {
-        Some((by_feed, _)) if by_feed.len() < line.len() => Some(by_feed),
-        Some((by_feed, _)) if rest.starts_with(b"\n") || rest.starts_with(b"\r\n") => Some(by_feed),
-        _ => Some(line),
-    }
-}
-
-/// The rest of a text after its first line and one byte that ends it.
-fn behind<'a>(text: &'a [u8], line: &[u8]) -> Option<&'a [u8]> {
-    let (_, rest) = text.split_at_checked(line.len())?;
-    let (_, rest) = rest.split_first()?;
-    Some(rest)
 }
 
 /// The separator at the start of a text.
@@ -167,9 +159,11 @@ fn separator_at(text: &[u8]) -> Option<Separator<'_>> {
         [inner @ .., b'\r'] => trim(inner),
         _ => trim(line),
     };
-    let section = section_of(without_dashes(line))?;
+    let inner = without_dashes(line);
+    let section = section_of(inner)?;
     Some(Separator {
         section,
+        kind: kind_in(inner),
         rest,
         is_usual: is_usual(line, section),
     })
@@ -256,6 +250,7 @@ fn add<'a>(found: &mut Found<'a>, separator: Separator<'a>) -> Result<&'a [u8], 
             }
             found.has_dat = true;
             found.sections.dat = text;
+            found.sections.kind = separator.kind;
             found.sections.wrong_count = wrong;
         }
     }
@@ -268,6 +263,7 @@ pub fn cut(cff: &[u8]) -> Result<Sections<'_>, ImportFault> {
         sections: Sections {
             cfg: &[],
             dat: &[],
+            kind: &[],
             has_inf: false,
             has_hdr: false,
             has_odd_separator: false,

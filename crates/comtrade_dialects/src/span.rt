@@ -1,6 +1,6 @@
 //! Summarises the samples of a channel.
 
-use crate::num::Num;
+use crate::num::{Num, ten_to};
 use crate::scale::Scale;
 
 /// The least and the greatest whole number that a form of data can hold.
@@ -37,6 +37,26 @@ pub(crate) struct Span {
     pub need: i32,
     pub reach: Reach,
     pub scale: Scale,
+    /// Where it is sought, the greatest number of the scale's units of which all samples are
+    /// multiples from the least one; 0 before the second sample that differs.
+    pub step: Option<u64>,
+}
+
+/// The most steps between the least and the greatest sample.
+pub(crate) const STEPS: u64 = 65_534;
+
+/// The greatest common divisor of two numbers; 0 if both are 0.
+fn common(first: u64, second: u64) -> u64 {
+    let mut larger = first;
+    let mut smaller = second;
+    for _ in 0..100 {
+        let Some(rest) = larger.checked_rem(smaller) else {
+            return larger;
+        };
+        larger = smaller;
+        smaller = rest;
+    }
+    1 // (Euclid's algorithm takes fewer than 100 divisions)
 }
 
 /// The least and the greatest sample as multiples of the scale's unit.
@@ -93,6 +113,7 @@ impl Span {
             order: -9_999,
             need: -9_999,
             reach: Reach::Empty,
+            step: None,
             scale: Scale::new(0),
         }
     }
@@ -141,6 +162,50 @@ impl Span {
     /// Whether the least and the greatest sample are still to be found.
     pub(crate) fn is_open(&self) -> bool {
         !self.fits && !self.is_binary
+    }
+
+    /// Seeks a step, if all samples are multiples of the scale's unit.
+    pub(crate) fn seek_step(&mut self) {
+        self.step = (self.need <= self.scale.shift).then_some(0);
+    }
+
+    /// Whether a step is sought.
+    pub(crate) fn is_sought(&self) -> bool {
+        self.step.is_some()
+    }
+
+    /// The step with one more sample; None if there are too many of them.
+    fn step_with(&self, num: Num) -> Option<u64> {
+        let (low, high) = self.reach.ends()?;
+        let step = common(self.step?, self.scale.nearest(num)?.abs_diff(low));
+        match high.abs_diff(low).checked_div(step) {
+            Some(count) if STEPS < count => None,
+            _ => Some(step),
+        }
+    }
+
+    /// Narrows the step by a sample.
+    pub(crate) fn narrow_step(&mut self, num: Num) {
+        self.step = self.step_with(num);
+    }
+
+    /// Gives up a step that is no power of two.
+    pub(crate) fn keep_power(&mut self) {
+        if !self.has_power() {
+            self.step = None;
+        }
+    }
+
+    /// Whether the step is a power of two.
+    fn has_power(&self) -> bool {
+        let (Some(step), Some(one)) = (self.step, ten_to(self.scale.shift)) else {
+            return false;
+        };
+        let one = one.unsigned_abs();
+        match (step.checked_rem(one), step.checked_div(one)) {
+            (Some(0), Some(times)) => times.is_power_of_two(),
+            _ => false,
+        }
     }
 
     /// Extends the least and the greatest by a sample.

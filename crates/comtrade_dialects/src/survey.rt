@@ -1,14 +1,17 @@
 //! Surveys all rows before they are written: numbers, stamps and spans of samples.
 
 use crate::fault::{ImportFault, Why};
-use crate::float_span::FloatSpan;
+use crate::float_span::float_spans;
 use crate::key::Key;
 use crate::kinds::Form;
 use crate::note::{Notes, Place};
+use crate::num::is_float_mark;
 use crate::numbers::Tick;
 use crate::packed_row::{Bytes, read_float_row};
+use crate::pair::Samples;
 use crate::row::{Cells, Counts, Packed, Plan, Rows, Step, Stop};
 use crate::span::{Bounds, Span};
+use crate::step_search::find_steps;
 use std::alloc::Allocator;
 
 /// What the first pass over the rows found.
@@ -27,6 +30,9 @@ pub(crate) struct Ground<'a> {
     pub plan: Plan<'a>,
     pub counts: Counts,
     pub bounds: Bounds,
+    pub samples: Samples,
+    /// Ranges of whole numbers of 32 bits are usual.
+    pub has_long_ranges: bool,
     pub unsigned: &'a [bool],
     /// The min of each channel; if it is above -32,768, then -32,768 is not a sample. The least
     /// number if the channel declares no min that 1999 can hold; otherwise 999,999 is not a sample.
@@ -127,7 +133,7 @@ pub(crate) fn next_cells<A: Allocator + Copy>(
     for (i, value) in cells.values.iter_mut().enumerate() {
         if let Some(num) = *value {
             let whole = num.whole();
-            let is_foreign = is_foreign_mark(ground, i, whole);
+            let is_foreign = num.is_mark() || is_foreign_mark(ground, i, whole);
             if is_foreign || is_own_mark(ground, i, whole) {
                 *value = None;
                 has_mark = has_mark || is_foreign;
@@ -173,15 +179,6 @@ pub(crate) fn next_floats<'a, A: Allocator + Copy>(
     }
 }
 
-/// The initial spans of the channels of a file of floats.
-fn float_spans<A: Allocator>(alloc: A, count: usize) -> Result<Vec<FloatSpan, A>, ImportFault> {
-    let mut spans = Vec::new(alloc);
-    for _ in 0..count {
-        spans.push(FloatSpan::new())?;
-    }
-    Ok(spans)
-}
-
 /// The first pass over rows of floats; their spans come from their bits.
 fn look_at_floats<A: Allocator + Copy>(
     alloc: A,
@@ -197,14 +194,15 @@ fn look_at_floats<A: Allocator + Copy>(
         let Some(mut values) = next_floats(ground, packed, &mut rows, &mut cells)? else {
             break;
         };
-        tell_row(notes, &cells, number)?;
-        add_row(survey, &cells, ground.bounds)?;
         for span in spans.iter_mut() {
             let Some(bits) = values.next_long() else {
                 return Err(ImportFault::Dat(number, Why::Length));
             };
+            cells.odd.has_marks = cells.odd.has_marks || is_float_mark(bits);
             span.add(bits, ground.bounds);
         }
+        tell_row(notes, &cells, number)?;
+        add_row(survey, &cells, ground.bounds)?;
     }
     for span in &spans {
         survey.spans.push(span.settled())?;
@@ -261,6 +259,8 @@ pub(crate) fn survey_of<A: Allocator + Copy>(
     if survey.ticks.is_empty() {
         return Err(ImportFault::Whole(Why::NoRow));
     }
+    let rows = survey.ticks.len() as u64;
+    find_steps(alloc, ground, &mut survey.spans, rows)?;
     Ok(survey)
 }
 
