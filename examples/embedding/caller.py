@@ -16,7 +16,7 @@ def micros(instant):
 
 
 def main(cfg, dat, new_cfg, new_dat):
-    rec = dfr_comtrade.read(cfg, dat)
+    rec = dfr_comtrade.read(cfg, dat, exact=True)
     print(f"{rec.station_name}, {rec.rec_dev_id}: {rec.analog_count} analogue, {rec.status_count} status, {len(rec)} rows, {rec.ft}")
     print(f"{rec.frequency:.3f} Hz, times {rec.timemult:.3f}, from {micros(rec.start_timestamp)}, trigger {micros(rec.trigger_timestamp)}")
     for rate in rec.rates:

@@ -47,6 +47,11 @@ int32_t comtrade_core_write(const uint8_t *cfg, size_t, bool binary, const uint6
                             const uint8_t *bits, size_t, uint8_t *new_cfg, size_t, uint8_t *new_dat, size_t, struct core_sizes *,
                             struct comtrade_fault *);
 int32_t comtrade_core_words(const uint8_t *cfg, size_t, const uint8_t *dat, size_t, uint8_t *text, size_t, size_t *count);
+struct core_lengths {
+    size_t cfg, dat, notes, repairs;
+};
+int32_t comtrade_core_import(const uint8_t *cfg, size_t, const uint8_t *dat, size_t, bool is_single, uint32_t order, const uint8_t *encoding, size_t,
+                             uint8_t *new_cfg, size_t, uint8_t *new_dat, size_t, uint8_t *notes, size_t, struct core_lengths *);
 
 struct comtrade {
     struct core_head head;
@@ -60,6 +65,8 @@ struct comtrade {
     int64_t *times;
     int32_t *samples;
     uint8_t *bits;
+    uint8_t *notes; /* lines */
+    size_t notes_length, note_count;
 };
 
 enum { ANALOG_TEXTS = 4, STATUS_TEXTS = 3, RECORD_TEXTS = 2 };
@@ -71,6 +78,7 @@ const char *comtrade_answer_text(int32_t answer) {
         "done", "the configuration file has an error", "the data file has an error", "no COMTRADE file can hold this record", "out of memory",
         "the buffer is too short", "there is no such channel, rate or row", "a file cannot be read or written",
         "the `size` of a struct is too small for any version", "a pointer is NULL, or an argument is not valid for the call",
+        "the files cannot be read, also not by `comtrade import`",
     };
     return 0 <= answer && answer < (int32_t)(sizeof words / sizeof *words) ? words[answer] : "not an answer of this library";
 }
@@ -146,6 +154,7 @@ void comtrade_close(comtrade *record) {
     free(record->times);
     free(record->samples);
     free(record->bits);
+    free(record->notes);
     free(record);
 }
 
@@ -245,6 +254,98 @@ int32_t comtrade_open_files(const char *cfg_name, const char *dat_name, comtrade
     free(cfg);
     free(dat);
     return answer;
+}
+
+/* The files of an import, and its notes or the reason of its refusal. */
+struct imported {
+    uint8_t *cfg, *dat, *notes;
+    struct core_lengths lengths;
+};
+
+static void forget(struct imported *made) {
+    free(made->cfg);
+    free(made->dat);
+    free(made->notes);
+    made->cfg = made->dat = made->notes = NULL;
+}
+
+static bool make_room(struct imported *made, struct core_lengths room) {
+    made->cfg = (uint8_t *)room_for(room.cfg, 1);
+    made->dat = (uint8_t *)room_for(room.dat, 1);
+    made->notes = (uint8_t *)room_for(room.notes, 1);
+    return made->cfg && made->dat && made->notes;
+}
+
+static size_t at_least(size_t a, size_t b) { return a < b ? b : a; }
+
+/* Files that are repaired are seldom longer than what was given; if one is, its length is known then, and all is done again. */
+static int32_t import_texts(const uint8_t *cfg, size_t cfg_length, const uint8_t *dat, size_t dat_length, const struct comtrade_choices *choices,
+                            struct imported *made) {
+    const uint8_t *encoding = some(choices->encoding);
+    size_t letters = choices->encoding ? strlen(choices->encoding) : 0, most = dat ? dat_length : cfg_length;
+    if (cfg_length > SIZE_MAX / 2 || most > SIZE_MAX / 2) return COMTRADE_NO_MEMORY;
+    struct core_lengths room = {cfg_length + 4096, most + 4096, 4096, 0}, found = room;
+    for (int turn = 0;; turn++) {
+        int32_t answer = COMTRADE_NO_MEMORY;
+        if (make_room(made, room))
+            answer = comtrade_core_import(cfg, cfg_length, some(dat), dat_length, !dat, choices->dates, encoding, letters, made->cfg, room.cfg,
+                                          made->dat, room.dat, made->notes, room.notes, &found);
+        bool lacks_room = answer == COMTRADE_NO_ROOM || (answer == COMTRADE_REFUSED && found.notes > room.notes);
+        made->lengths = found;
+        if (!lacks_room || turn == 1) return lacks_room ? COMTRADE_NO_MEMORY : answer;
+        forget(made);
+        room.cfg = at_least(room.cfg, found.cfg), room.dat = at_least(room.dat, found.dat), room.notes = at_least(room.notes, found.notes);
+    }
+}
+
+int32_t comtrade_import(const uint8_t *cfg, size_t cfg_length, const uint8_t *dat, size_t dat_length, const struct comtrade_choices *choices,
+                        comtrade **record, char *why, size_t room, size_t *needed) {
+    struct comtrade_choices made = {sizeof made, NULL, COMTRADE_DATES_AS_USUAL};
+    struct imported files = {NULL, NULL, NULL, {0, 0, 0, 0}};
+    if (!record || (cfg_length && !cfg) || (dat_length && !dat) || (!why && room)) return COMTRADE_BAD_CALL;
+    if (choices && choices->size < sizeof made) return COMTRADE_BAD_SIZE;
+    if (choices) memcpy(&made, choices, sizeof made);
+    comtrade *r = NULL;
+    int32_t answer = import_texts(some(cfg), cfg_length, dat, dat_length, &made, &files);
+    if (answer == COMTRADE_REFUSED) {
+        put_text(files.notes, files.lengths.notes, why, room, needed);
+    } else if (answer == COMTRADE_DONE) {
+        answer = comtrade_open(files.cfg, files.lengths.cfg, files.dat, files.lengths.dat, &r, NULL);
+    }
+    if (answer == COMTRADE_DONE) {
+        r->notes = files.notes, r->notes_length = files.lengths.notes, r->note_count = files.lengths.repairs;
+        files.notes = NULL;
+        *record = r;
+    }
+    forget(&files);
+    return answer;
+}
+
+int32_t comtrade_import_files(const char *cfg_name, const char *dat_name, const struct comtrade_choices *choices, comtrade **record, char *why,
+                              size_t room, size_t *needed) {
+    uint8_t *cfg = NULL, *dat = NULL;
+    size_t cfg_length = 0, dat_length = 0;
+    if (!cfg_name || !record) return COMTRADE_BAD_CALL;
+    int32_t answer = contents(cfg_name, &cfg, &cfg_length);
+    if (answer == COMTRADE_DONE && dat_name) answer = contents(dat_name, &dat, &dat_length);
+    if (answer == COMTRADE_DONE) answer = comtrade_import(cfg, cfg_length, dat, dat_length, choices, record, why, room, needed);
+    free(cfg);
+    free(dat);
+    return answer;
+}
+
+size_t comtrade_notes(const comtrade *r) { return r ? r->note_count : 0; }
+
+int32_t comtrade_note(const comtrade *r, size_t note, char *buffer, size_t room, size_t *needed) {
+    if (!r) return COMTRADE_BAD_CALL;
+    if (note >= r->note_count) return COMTRADE_NO_ITEM;
+    const uint8_t *line = r->notes, *end = r->notes + r->notes_length, *stop;
+    for (;; note--) {
+        stop = (const uint8_t *)memchr(line, '\n', (size_t)(end - line));
+        if (!stop) return COMTRADE_NO_ITEM;
+        if (!note) return put_text(line, (size_t)(stop - line), buffer, room, needed);
+        line = stop + 1;
+    }
 }
 
 /* Fills a struct of the caller, which must be long enough for the members of the first version. */

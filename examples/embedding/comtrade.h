@@ -1,4 +1,4 @@
-/* The C library of Mehukarau: reads and writes COMTRADE 1999 records (IEEE Std C37.111-1999).
+/* The C library of Mehukarau: reads COMTRADE records, writes those of 1999 (IEEE Std C37.111-1999).
  * sample.c is a whole program.
  *
  *     comtrade *record;
@@ -55,7 +55,8 @@ enum {
     COMTRADE_NO_ITEM = 6,     /* there is no channel, rate or row with this number */
     COMTRADE_NO_FILE = 7,     /* a file cannot be read or written; errno gives the reason */
     COMTRADE_BAD_SIZE = 8,    /* the `size` of a struct is not that of any version */
-    COMTRADE_BAD_CALL = 9     /* a pointer is NULL, or a number is not one that the call accepts */
+    COMTRADE_BAD_CALL = 9,    /* a pointer is NULL, or a number is not one that the call accepts */
+    COMTRADE_REFUSED = 10     /* comtrade_import cannot read the files; `why` tells the reason */
 };
 /* The return code in words, such as "the buffer is too short". Never NULL. */
 const char *comtrade_answer_text(int32_t answer);
@@ -110,6 +111,32 @@ int32_t comtrade_open(const uint8_t *cfg, size_t cfg_length, const uint8_t *dat,
 int32_t comtrade_open_files(const char *cfg_name, const char *dat_name, comtrade **record, struct comtrade_fault *fault);
 /* Frees the record, which may be NULL. */
 void comtrade_close(comtrade *record);
+
+/* The order of day and month in dates. */
+enum { COMTRADE_DATES_AS_USUAL = 0, COMTRADE_MONTH_FIRST = 1, COMTRADE_DAY_FIRST = 2 };
+/* What files of other revisions and makers may leave open. */
+struct comtrade_choices {
+    size_t size;
+    const char *encoding; /* of texts outside ASCII, such as "cp850"; NULL: UTF-8, or else Latin-1 */
+    uint32_t dates;       /* as usual: the order of the revision, unless only the other gives dates */
+};
+
+/* Reads a record as `comtrade import` does: files of 1991, 1999 and 2013, with ASCII, BINARY,
+ * BINARY32 or FLOAT32 data, in the dialects of relays and programs, and single files (.cff: `cfg`,
+ * and NULL for `dat`). What is repaired, or rounded to the samples of 1999, is a note. A pair that
+ * comtrade_open reads, and that has no sign of another meaning, is the same record, without notes.
+ * `choices` may be NULL. Only DONE sets `*record`. Returns REFUSED, with the reason and a zero in
+ * `why`, if that has room for it, and the reason's length in `needed`, or NO_MEMORY; with BAD_CALL
+ * also an encoding that is unknown; comtrade_import_files also NO_FILE. */
+int32_t comtrade_import(const uint8_t *cfg, size_t cfg_length, const uint8_t *dat, size_t dat_length,
+                        const struct comtrade_choices *choices, comtrade **record, char *why, size_t room, size_t *needed);
+int32_t comtrade_import_files(const char *cfg_name, const char *dat_name, const struct comtrade_choices *choices,
+                              comtrade **record, char *why, size_t room, size_t *needed);
+/* How many notes a record has; none if it was read by comtrade_open. */
+size_t comtrade_notes(const comtrade *record);
+/* A note, such as `years-2-digits: a year of two digits (line 14: ..)`; a zero, `needed` and
+ * NO_ROOM as for comtrade_text. NO_ITEM if there is no such note. */
+int32_t comtrade_note(const comtrade *record, size_t note, char *buffer, size_t room, size_t *needed);
 
 /* The record as a whole. Instants are in microseconds since 1970-01-01 00:00:00, without a
  * time zone (5.3.7). */

@@ -1,6 +1,6 @@
 /* Checks what the calls answer if an allocation fails, and at their edges: NULL, lengths of 0, short buffers, structs of other sizes, rows and
  * channels that do not exist: memory CFG DAT
- * It makes comtrade_open and comtrade_write with all memory, then again with the first, second, .. allocation refused, until none is refused:
+ * It makes comtrade_open, comtrade_import and comtrade_write with all memory, then again with the first, second, .. allocation refused, until none is refused:
  * once with every later allocation refused too, and once with that one alone, which another may make up for. It is linked with
  * -Wl,--wrap=malloc,--wrap=calloc,--wrap=realloc,--wrap=free, so that the allocations of the library pass through here. */
 #include <stdio.h>
@@ -89,6 +89,18 @@ static int32_t writes_beyond(struct made *m) {
     ill.samples = far;
     return comtrade_write(&ill, &m->cfg, &m->cfg_length, &m->dat, &m->dat_length, &m->fault);
 }
+
+/* A pair of 1991: no year in the first line, ten fields in that of an analogue channel, the month first, no time multiplier. */
+static const char old_cfg[] = "Relay,1\r\n2,1A,1D\r\n1,IA,A,,A,0.1,0,0,-32767,32767\r\n1,Trip,0\r\n50\r\n1\r\n1000,2\r\n"
+                              "05/23/96,12:00:00.000000\r\n05/23/96,12:00:00.001000\r\nASCII\r\n";
+static const char old_dat[] = "1,0,10,0\r\n2,1000,-10,1\r\n\x1a";
+
+static int32_t imported(const char *cfg_text, const struct comtrade_choices *choices, comtrade **record, char *why, size_t room, size_t *needed) {
+    return comtrade_import((const uint8_t *)cfg_text, strlen(cfg_text), (const uint8_t *)old_dat, strlen(old_dat), choices, record, why, room, needed);
+}
+static int32_t imports(struct made *m) { return imported(old_cfg, NULL, &m->record, NULL, 0, NULL); }
+static int32_t imports_exact(struct made *m) { return comtrade_import(cfg, cfg_length, dat, dat_length, NULL, &m->record, NULL, 0, NULL); }
+static int32_t imports_ill(struct made *m) { return imported("x,y,2525\r\n", NULL, &m->record, NULL, 0, NULL); }
 
 /* The call frees what it made, and nothing else is held then. */
 static int32_t answer_of(int32_t (*call)(struct made *), struct made *m, long refusal) {
@@ -206,6 +218,52 @@ static void words(void) {
     WANT(comtrade_explain(cfg, first, dat, dat_length, NULL, 1, NULL), COMTRADE_BAD_CALL);
 }
 
+static void imported_edges(void) {
+    static const char *const keys[] = {"revision-1991:", "sides-absent:", "years-2-digits:", "dates-mdy:"};
+    struct comtrade_choices choices = {sizeof choices, NULL, COMTRADE_DATES_AS_USUAL};
+    comtrade *r = NULL;
+    struct comtrade_head head;
+    char text[600];
+    size_t needed = 0;
+    double value = 0;
+    WANT(imported(old_cfg, &choices, &r, NULL, 0, NULL), COMTRADE_DONE);
+    WANT(comtrade_notes(r), 4);
+    for (size_t k = 0; k < 4; k++) {
+        WANT(comtrade_note(r, k, text, sizeof text, &needed), COMTRADE_DONE);
+        WANT(needed, (long)strlen(text));
+        if (strncmp(text, keys[k], strlen(keys[k])) != 0) ill += printf("note: %s\n", text);
+    }
+    WANT(comtrade_note(r, 4, text, sizeof text, NULL), COMTRADE_NO_ITEM);
+    WANT(comtrade_note(r, 3, text, needed, NULL), COMTRADE_NO_ROOM);
+    WANT(comtrade_note(NULL, 0, text, sizeof text, NULL), COMTRADE_BAD_CALL);
+    head.size = sizeof head;
+    WANT(comtrade_head(r, &head), COMTRADE_DONE);
+    WANT(head.first == INT64_C(832852800000000), 1); /* 1996-05-23 12:00 */
+    WANT(comtrade_values(r, 0, 1, 1, &value), COMTRADE_DONE);
+    WANT(value == -1.0, 1);
+    comtrade_close(r), r = NULL;
+    choices.dates = COMTRADE_DAY_FIRST; /* there is no month 23 */
+    WANT(imported(old_cfg, &choices, &r, text, sizeof text, &needed), COMTRADE_REFUSED);
+    WANT(needed, (long)strlen(text));
+    text[0] = '?';
+    WANT(imported(old_cfg, &choices, &r, text, needed, NULL), COMTRADE_REFUSED);
+    WANT(text[0], '?');
+    choices.dates = 3;
+    WANT(imported(old_cfg, &choices, &r, NULL, 0, NULL), COMTRADE_BAD_CALL);
+    choices.dates = COMTRADE_DATES_AS_USUAL, choices.encoding = "runes";
+    WANT(imported(old_cfg, &choices, &r, NULL, 0, NULL), COMTRADE_BAD_CALL);
+    choices.encoding = "cp850", choices.size--;
+    WANT(imported(old_cfg, &choices, &r, NULL, 0, NULL), COMTRADE_BAD_SIZE);
+    WANT(comtrade_import(NULL, 1, NULL, 0, NULL, &r, NULL, 0, NULL), COMTRADE_BAD_CALL);
+    WANT(comtrade_import(NULL, 0, NULL, 0, NULL, &r, NULL, 0, NULL), COMTRADE_REFUSED);
+    WANT(comtrade_import_files("/no such file", NULL, NULL, &r, NULL, 0, NULL), COMTRADE_NO_FILE);
+    WANT(comtrade_import_files(NULL, NULL, NULL, &r, NULL, 0, NULL), COMTRADE_BAD_CALL);
+    WANT(r == NULL, 1);
+    WANT(comtrade_import(cfg, cfg_length, dat, dat_length, NULL, &r, NULL, 0, NULL), COMTRADE_DONE);
+    WANT(comtrade_notes(r), 0);
+    comtrade_close(r);
+}
+
 static size_t contents(const char *name, uint8_t *to) {
     FILE *file = fopen(name, "rb");
     size_t length = file ? fread(to, 1, TEXT, file) : 0;
@@ -231,7 +289,9 @@ int main(int argc, char **argv) {
             + !refuses("comtrade_open, a cut head", opens_ill, COMTRADE_CFG_FAULT) + !refuses("comtrade_open, nothing", opens_nothing, COMTRADE_CFG_FAULT)
             + !refuses("comtrade_explain, a cut head", explains, COMTRADE_DONE) + !refuses("comtrade_explain", explains_nothing, COMTRADE_DONE)
             + !refuses("comtrade_write", writes, COMTRADE_DONE) + !refuses("comtrade_write, a comma", writes_ill, COMTRADE_WRITE_FAULT)
-            + !refuses("comtrade_write, a far sample", writes_beyond, COMTRADE_WRITE_FAULT);
+            + !refuses("comtrade_write, a far sample", writes_beyond, COMTRADE_WRITE_FAULT) + !refuses("comtrade_import", imports, COMTRADE_DONE)
+            + !refuses("comtrade_import, an exact pair", imports_exact, COMTRADE_DONE)
+            + !refuses("comtrade_import, no COMTRADE file", imports_ill, COMTRADE_REFUSED);
     }
     WANT(comtrade_open(NULL, 1, dat, dat_length, &record, NULL), COMTRADE_BAD_CALL);
     WANT(comtrade_open(cfg, cfg_length, dat, dat_length, NULL, NULL), COMTRADE_BAD_CALL);
@@ -244,6 +304,7 @@ int main(int argc, char **argv) {
     setup.size++, setup.samples = NULL;
     WANT(comtrade_write(&setup, &to, &length, &to, &length, NULL), COMTRADE_BAD_CALL);
     words();
+    imported_edges();
     comtrade_close(NULL);
     WANT(comtrade_open(cfg, cfg_length, dat, dat_length, &record, NULL), COMTRADE_DONE);
     if (record) edges(record);

@@ -6,7 +6,7 @@ import dfr_comtrade
 if len(sys.argv) != 3:
     sys.exit("usage: sample.py CFG DAT")
 try:
-    record = dfr_comtrade.read(sys.argv[1], sys.argv[2])
+    record = dfr_comtrade.read(sys.argv[1], sys.argv[2], exact=True)
 except (OSError, dfr_comtrade.ComtradeError) as error:
     sys.exit(f"error: {error}")
 channel = record.analog[0]

@@ -59,7 +59,7 @@ def analyse(name):
     import dfr_comtrade
 
     try:
-        record = dfr_comtrade.read(name)
+        record = dfr_comtrade.read(name, exact=True)
         said = {
             "name": name,
             "station": record.station,

@@ -1,4 +1,4 @@
-"""Reads and writes COMTRADE 1999 records (IEEE Std C37.111-1999).
+"""Reads COMTRADE records, and writes those of 1999 (IEEE Std C37.111-1999).
 
 A record is a pair of files, here fault.cfg and fault.dat:
 
@@ -9,39 +9,59 @@ A record is a pair of files, here fault.cfg and fault.dat:
         print(channel.id, max(channel.values), channel.unit)
     dfr_comtrade.write("copy.cfg", record)
 
-Files of 1991 or 2013 and .cff files are not read: convert them first with `comtrade import`.
+It reads what `comtrade import` reads: files of 1991, 1999 and 2013, single files (.cff), BINARY32 and FLOAT32 data, and the dialects of
+relays and programs. `record.notes` says what was repaired. `Comtrade` and `load` have the names of the package `comtrade`.
 """
-import ctypes
 from pathlib import Path
 from typing import Optional
 
-from . import _files, _library as c
+from . import _files
 from ._library import NO_SAMPLE, NO_STAMP, NO_TIME
-from .errors import CfgFault, ComtradeError, DatFault, WriteFault, explain, need_read
-from .record import AnalogChannel, Channels, Rate, Record, StatusChannel
+from .errors import CfgFault, ComtradeError, DatFault, RepairWarning, WriteFault, explain
+from .opening import exact_of, imported_of, warn_of
+from .record import AnalogChannel, Channels, Event, Rate, Record, StatusChannel
+from .same_names import Comtrade, load
 from .writing import Analog, Status, write, write_bytes
 
 __version__ = "1.2.0"
 __all__ = [
-    "Analog", "AnalogChannel", "CfgFault", "Channels", "ComtradeError", "DatFault", "NO_SAMPLE", "NO_STAMP", "NO_TIME", "Rate", "Record",
-    "Status", "StatusChannel", "WriteFault", "explain", "read", "read_bytes", "write", "write_bytes",
+    "Analog", "AnalogChannel", "CfgFault", "Channels", "Comtrade", "ComtradeError", "DatFault", "Event", "NO_SAMPLE", "NO_STAMP", "NO_TIME", "Rate",
+    "Record", "RepairWarning", "Status", "StatusChannel", "WriteFault", "explain", "load", "read", "read_bytes", "write", "write_bytes",
 ]
 
 
-def read_bytes(cfg: bytes, dat: bytes) -> Record:
-    """Reads a record from the bytes of its configuration file and its data file. Raises CfgFault, DatFault, MemoryError."""
-    at, fault = ctypes.c_void_p(), c.Fault()
-    need_read(c.library.comtrade_open(cfg, len(cfg), dat, len(dat), ctypes.byref(at), ctypes.byref(fault)), fault, cfg, dat)
-    return Record(at)
+def read_bytes(
+    cfg: bytes, dat: Optional[bytes] = None, *, exact: bool = False, encoding: Optional[str] = None, dates: Optional[str] = None
+) -> Record:
+    """Reads a record from the bytes of its configuration file and its data file, or of a single file (.cff).
+
+    Files of other revisions and makers are read as `comtrade import` reads them. `record.notes` has a line for each kind of repair, and a
+    RepairWarning is given if there are any.
+    `encoding` is that of texts outside ASCII, such as "cp850", `dates` is "mdy" or "dmy" for the order of day and month. With `exact=True`
+    only files of 1999 are read, as they are, and nothing is repaired. Raises CfgFault, DatFault, MemoryError, ValueError."""
+    return _opened(cfg, dat, exact, encoding, dates)
 
 
-def read(cfg: _files.Name, dat: Optional[_files.Name] = None) -> Record:
-    """Reads a record from its two files. With one name, this is the name of either file, or the name that they share without .cfg and .dat.
-    The other file is in the same folder; its name may differ in upper and lower case. With two names, exactly these files are read. Raises
-    OSError (FileNotFoundError says what was looked for), CfgFault (also for a single file, .cff), DatFault, MemoryError."""
-    if dat is not None:
-        return read_bytes(Path(cfg).read_bytes(), Path(dat).read_bytes())
-    found, data = _files.pair_of(cfg)
-    if data is None:
-        raise CfgFault(_files.single_text(found))
-    return read_bytes(Path(found).read_bytes(), Path(data).read_bytes())
+def read(
+    cfg: _files.Name,
+    dat: Optional[_files.Name] = None,
+    *,
+    exact: bool = False,
+    encoding: Optional[str] = None,
+    dates: Optional[str] = None,
+) -> Record:
+    """Reads a record from its two files. With one name, this is the name of either file, or the name that they share without .cfg and .dat,
+    or a single file (.cff). The other file is in the same folder; its name may differ in upper and lower case. With two names, exactly these
+    files are read. The other arguments are those of `read_bytes`. Raises OSError (FileNotFoundError says what was looked for), CfgFault,
+    DatFault, MemoryError, ValueError."""
+    found, data = (cfg, dat) if dat is not None else _files.pair_of(cfg)
+    if data is None and exact:
+        raise CfgFault(_files.single_text(str(found)))
+    content = None if data is None else Path(data).read_bytes()
+    return _opened(Path(found).read_bytes(), content, exact, encoding, dates)
+
+
+def _opened(cfg: bytes, dat: Optional[bytes], exact: bool, encoding: Optional[str], dates: Optional[str]) -> Record:
+    record = exact_of(cfg, dat) if exact else imported_of(cfg, dat, encoding, dates)
+    warn_of(record, 3)
+    return record

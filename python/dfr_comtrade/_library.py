@@ -6,13 +6,13 @@ from ctypes import POINTER, Structure, c_bool, c_char_p, c_double, c_int32, c_in
 from pathlib import Path
 from typing import Any
 
-VERSION = 10100  # the oldest library that has every call used here
+VERSION = 10200  # an older library has another first number, or lacks calls that are used here
 ALL = ctypes.c_size_t(-1).value
 NO_SAMPLE = -(2**31)
 NO_STAMP = 2**64 - 1
 NO_TIME = -(2**63)
 
-DONE, CFG_FAULT, DAT_FAULT, WRITE_FAULT, NO_MEMORY, NO_ROOM, NO_ITEM, NO_FILE, BAD_SIZE, BAD_CALL = range(10)
+DONE, CFG_FAULT, DAT_FAULT, WRITE_FAULT, NO_MEMORY, NO_ROOM, NO_ITEM, NO_FILE, BAD_SIZE, BAD_CALL, REFUSED = range(11)
 STATION, DEVICE, ANALOG_ID, ANALOG_PHASE, ANALOG_COMPONENT, ANALOG_UNIT, STATUS_ID, STATUS_PHASE, STATUS_COMPONENT = range(9)
 
 
@@ -25,6 +25,10 @@ class Sized(Structure):
 
     def __init__(self, **fields: Any) -> None:
         super().__init__(size=ctypes.sizeof(type(self)), **fields)
+
+
+class Choices(Sized):
+    _fields_ = [("size", c_size_t), ("encoding", c_char_p), ("dates", c_uint32)]
 
 
 class Head(Sized):
@@ -101,13 +105,18 @@ def _load() -> ctypes.CDLL:
         "samples": rows, "values": rows, "bits": rows,
         "stamps": [c_void_p, c_size_t, c_size_t, c_void_p],
         "times": [c_void_p, c_size_t, c_size_t, c_void_p],
+        "import": [c_char_p, c_size_t, c_char_p, c_size_t, POINTER(Choices), POINTER(c_void_p), out, c_size_t, POINTER(c_size_t)],
+        "note": [c_void_p, c_size_t, out, c_size_t, POINTER(c_size_t)],
         "explain": [c_char_p, c_size_t, c_char_p, c_size_t, out, c_size_t, POINTER(c_size_t)],
         "fault_text": [fault, out, c_size_t, POINTER(c_size_t)],
         "write": [POINTER(Setup), POINTER(POINTER(c_uint8)), POINTER(c_size_t), POINTER(POINTER(c_uint8)), POINTER(c_size_t), fault],
     }
     for name, types in calls.items():
-        call = getattr(library, "comtrade_" + name)
+        call = getattr(library, "comtrade_" + name, None)
+        if call is None:
+            raise ImportError(f"libcomtrade.so, version {_dotted(version)}, has no comtrade_{name}: this package needs a later library")
         call.argtypes, call.restype = types, c_int32
+    library.comtrade_notes.argtypes, library.comtrade_notes.restype = [c_void_p], c_size_t
     library.comtrade_close.argtypes, library.comtrade_close.restype = [c_void_p], None
     library.comtrade_free.argtypes, library.comtrade_free.restype = [c_void_p], None
     library.comtrade_answer_text.argtypes, library.comtrade_answer_text.restype = [c_int32], c_char_p

@@ -22,11 +22,15 @@ class ComtradeError(Exception):
 
 
 class CfgFault(ComtradeError):
-    """The configuration file has an error, or is of another revision, or both files are one (.cff)."""
+    """The configuration file has an error that cannot be repaired; read exactly, any error, another revision, or a single file (.cff)."""
 
 
 class DatFault(ComtradeError):
-    """The data file has an error."""
+    """The data file has an error that cannot be repaired; read exactly, any error."""
+
+
+class RepairWarning(UserWarning):
+    """A record was read with repairs; its `notes` list them."""
 
 
 class WriteFault(ComtradeError):

@@ -49,6 +49,23 @@ class Rate(NamedTuple):
     endsamp: int
 
 
+class Event(NamedTuple):
+    """A change of a status channel: the row (from 0) that has another bit than the one before it, its time in seconds since the first
+    row, the channel, and its new bit."""
+
+    row: int
+    time: float
+    channel: "StatusChannel"
+    bit: int
+
+
+def _changes_of(bits: Any) -> List[int]:
+    """The rows whose bit is not that of the row before."""
+    if numpy is not None:
+        return [int(row) + 1 for row in numpy.flatnonzero(bits[1:] != bits[:-1])]
+    return [row for row in range(1, len(bits)) if bits[row] != bits[row - 1]]
+
+
 class _Kept:
     """The record in the library. It is closed when the `Record` and all its channels are gone."""
 
@@ -212,9 +229,11 @@ class Channels(Sequence[_C]):
 class Record:
     """A record that has been read. Times count from the first row."""
 
-    def __init__(self, at: ctypes.c_void_p):
+    def __init__(self, at: ctypes.c_void_p, notes: List[str]):
         self._record = kept = _Kept(at)
         head = kept.head
+        #: What was repaired, or rounded to the samples of 1999: a line for each kind, which begins with its key and a colon.
+        self.notes = notes
         self.line_freq: float = head.line_freq
         self.timemult: float = head.timemult
         self.binary: bool = head.binary
@@ -275,6 +294,13 @@ class Record:
         """The instant of the trigger, to the microsecond, without a time zone."""
         return _EPOCH + datetime.timedelta(microseconds=self._record.head.trigger)
 
+    @property
+    def events(self) -> List[Event]:
+        """The changes of status channels, in the order of rows, and of channels in a row."""
+        times = self.times
+        changes = [(row, k) for k, channel in enumerate(self.status) for row in _changes_of(channel.bits)]
+        return [Event(row, float(times[row]), self.status[k], int(self.status[k].bits[row])) for row, k in sorted(changes)]
+
     def to_pandas(self) -> Any:
         """A pandas DataFrame of all values and bits: a column for each channel, indexed by seconds since the first row. Channels with the same
         id get column names ending in `#2`, `#3` .."""
@@ -292,10 +318,13 @@ class Record:
 
     to_dataframe = to_pandas
 
+    def _has_note(self, key: str) -> bool:
+        return any(note.startswith(key + ":") for note in self.notes)
+
     @property
     def rev_year(self) -> str:
-        """The revision of the standard: always 1999."""
-        return "1999"
+        """The revision of the standard that the files follow: 1991, 1999 or 2013."""
+        return next((year for year in ("1991", "2013") if self._has_note(f"revision-{year}")), "1999")
 
     @property
     def channels_count(self) -> int:
@@ -364,5 +393,8 @@ class Record:
 
     @property
     def ft(self) -> str:
-        """The type of the data file: ASCII or BINARY."""
+        """The type of the data: ASCII, BINARY, BINARY32 or FLOAT32."""
+        for key, kind in (("kind-binary32", "BINARY32"), ("kind-float32", "FLOAT32")):
+            if self._has_note(key):
+                return kind
         return "BINARY" if self.binary else "ASCII"

@@ -38,7 +38,7 @@ def test_names_of_other_readers(plain):
 
 @pytest.mark.parametrize("name", ["plain", "many", "rates"])
 def test_written_again(name, tmp_path):
-    dfr_comtrade.write(tmp_path / "again.cfg", dfr_comtrade.read(PAIRS / f"{name}.cfg"))
+    dfr_comtrade.write(tmp_path / "again.cfg", dfr_comtrade.read(PAIRS / f"{name}.cfg", exact=True))
     for ending in (".cfg", ".dat"):
         assert (tmp_path / "again").with_suffix(ending).read_bytes() == (PAIRS / name).with_suffix(ending).read_bytes()
 
@@ -74,17 +74,17 @@ def test_nothing_is_overwritten(plain, tmp_path):
     assert len(dfr_comtrade.read(tmp_path / "X")) == 50
 
 
-def test_files_to_import_first(tmp_path):
+def test_files_that_are_not_read_exactly(tmp_path):
     cfg, dat = (PAIRS / "plain.cfg").read_bytes(), (PAIRS / "plain.dat").read_bytes()
     first, rest = cfg.split(b"\n", 1)
     for year in (b"", b",1991", b",2013"):
         with pytest.raises(dfr_comtrade.CfgFault, match="run: comtrade import FILE NAME first") as found:
-            dfr_comtrade.read_bytes(first.rstrip().rsplit(b",", 1)[0] + year + b"\r\n" + rest, dat)
+            dfr_comtrade.read_bytes(first.rstrip().rsplit(b",", 1)[0] + year + b"\r\n" + rest, dat, exact=True)
         assert found.value.line == 1
     (tmp_path / "x.cff").write_bytes(b"--- file type: CFG ---\r\n" + cfg)
     for name in ("x", "x.cff"):
         with pytest.raises(dfr_comtrade.CfgFault, match="single file .*; run: comtrade import FILE NAME first"):
-            dfr_comtrade.read(tmp_path / name)
+            dfr_comtrade.read(tmp_path / name, exact=True)
 
 
 @pytest.mark.parametrize("number", [0.1, 1e-5, 1 / 3, -123456.789, 5e-324, 1e30, 0.0])
@@ -104,7 +104,7 @@ def test_faults():
     assert (found.value.line, found.value.field) == (3, 6)
     assert str(found.value).startswith('the configuration file: line 3 (analogue channel 1), field 6 (a, the multiplier): found "x", expected ')
     with pytest.raises(dfr_comtrade.DatFault, match="^the data file: "):
-        dfr_comtrade.read_bytes(cfg, dat[:-1])
+        dfr_comtrade.read_bytes(cfg, dat[:-1], exact=True)
     assert dfr_comtrade.explain(cfg, dat) == ""
     with pytest.raises(dfr_comtrade.CfgFault):
         dfr_comtrade.read_bytes(b"", b"")

@@ -40,7 +40,7 @@ def backend(folder):
 def check_metadata(data):
     about = email.message_from_bytes(data)
     assert (about["Name"], about["Version"], about["Requires-Python"]) == ("dfr-comtrade", VERSION, ">=3.8")
-    assert about["Summary"].startswith("Reads and writes COMTRADE") and about["License-Expression"] == "MIT OR Apache-2.0"
+    assert about["Summary"].startswith("Reads COMTRADE") and about["License-Expression"] == "MIT OR Apache-2.0"
     assert about.get_all("License-File") == ["LICENSE-MIT", "LICENSE-APACHE"]
     assert about.get_all("Provides-Extra") == ["arrays", "test"]
     assert about.get_all("Requires-Dist") == ['numpy; extra == "arrays"', 'pandas; extra == "arrays"', 'pytest; extra == "test"']

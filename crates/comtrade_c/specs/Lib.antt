@@ -1,5 +1,6 @@
 pub mod Buffers
 pub mod Faults
+pub mod Importing
 pub mod Tables
 pub mod Channels
 pub mod Summaries

@@ -6,6 +6,7 @@
 mod answer;
 mod binary;
 mod channels;
+mod import;
 mod rows;
 mod summary;
 mod texts;
