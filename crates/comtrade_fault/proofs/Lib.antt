@@ -1,0 +1,3 @@
+pub mod MoreRows
+pub mod FirstRows
+pub mod Chains

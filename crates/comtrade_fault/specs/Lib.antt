@@ -1,0 +1,11 @@
+pub mod Searches
+pub mod Levels
+pub mod Sizing
+pub mod Bounding
+pub mod Departures
+pub mod Settling
+pub mod Typing
+pub mod Deciding
+pub mod Courses
+pub mod Scanning
+pub mod Places

@@ -1,0 +1,4 @@
+pub mod Lines
+pub mod Rules
+pub mod Headers
+pub mod Rows

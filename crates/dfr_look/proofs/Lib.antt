@@ -1,0 +1,3 @@
+pub mod Qualities
+pub mod Looks
+pub mod Throughs

@@ -1,0 +1,4 @@
+pub mod Steps
+pub mod Each
+pub mod Beginning
+pub mod Telling

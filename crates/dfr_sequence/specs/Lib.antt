@@ -1,0 +1,4 @@
+pub mod Scans
+pub mod Contacts
+pub mod Sequences
+pub mod Laws

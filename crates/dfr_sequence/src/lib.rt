@@ -1,0 +1,13 @@
+//! Sequence of events: which changes of the contacts are told, of all scans of a recording.
+#![tactic(auto)]
+
+mod change;
+mod contact;
+mod laws;
+mod place;
+mod sequence;
+
+pub use change::{Change, Flip, Limit};
+pub use laws::{each_change_once, few_in_a_second};
+pub use place::Place;
+pub use sequence::Sequence;
