@@ -116,7 +116,7 @@ _comtrade() {
             stamps-shifted stamps-wrapped stamps-ns stamps-absent times-unknown values-decimal
             values-wide values-unsigned values-rounded missing-marks kind-binary32 kind-float32
             kind-other kind-absent dat-1a dat-after-end row-size status-spare-bits big-endian cff
-            cff-form cff-count inf-dropped hdr-dropped' ;;
+            cff-form cff-count cff-kind inf-dropped hdr-dropped' ;;
         *) compopt +o default 2> /dev/null; return ;;
         esac
     elif [[ -z $only && $cur == -* ]]; then
