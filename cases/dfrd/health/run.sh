@@ -18,7 +18,7 @@ silent() { # silent NAME OPTION.. : what is read of standard input before the si
     local name=$1
     shift
     mkdir "$folder.$name"
-    { cat; until_file "$work/$name.prom" '^dfrd_silent 1'; cp "$work/$name.prom" "$work/$name.seen"; } |
+    { cat; until_file "$work/$name.prom" '^dfrd_silent{.*} 1$'; cp "$work/$name.prom" "$work/$name.seen"; } |
         "$dfrd" --quiet --start 0 --health "$work/$name.prom" "$@" dfr/replay/first/in "$folder.$name" > "$work/$name.told"
     shown "$work/$name.seen" | grep 'scans\|lost\|recording\|silent\|age'
 }
