@@ -26,7 +26,7 @@ use Rattle.dfr_live.specs.Seen.{TokenParts}
 use Rattle.dfr_live.specs.Calls.{with_entry, NotesTake}
 use Rattle.dfr_live.specs.Station.{PumpsOn, PumpsOut}
 use Rattle.dfr_live.specs.Devices.{GivesOf, LosesOf, AsksOf, HearsOf, PutsOf, LacksOf, Came, Noted, noted, noted_of, call_in, Turn, Waits, Makes, Desked, new_desk, TookTurn, AsksDone, MadeAll, IsMade, Waited, MadeOne, Handed, extents_taken, extent_taken, extents_of, IsTaken, HandedOn, HandsTaken, records_of, Got, GotAll, GotNoMore, GotFront, GotOne, GotNone, GotOn, SinkFailed, IsTake, is_again, FilesParts, files_of, PutsOnce, Tried, HandsRecord}
-use Rattle.dfr_live.specs.Causes.{PutFails, ExportFails, AcquisitionFails, TriggerFails, RunFails, HasCause, IsEnd}
+use Rattle.dfr_live.specs.Causes.{PutFails, ExportFails, AcquisitionFails, TriggerFails, RunFails, HasCause, HasTokens, IsEnd}
 use Rattle.dfr_live.specs.Gone.{Follows}
 
 -- a token that pumped on keeps its seat
@@ -403,28 +403,28 @@ module _ {A F K : Type 0} (Gives : GivesOf A F) (Loses : LosesOf F) (Puts : Puts
   by-export (fault.Feed code) h = absurd h
   by-export (fault.Sink code) h = h
   by-export fault.Turns h = tt
-  by-export fault.Counter h = tt
+  by-export fault.Counter h = absurd h
   by-export fault.Memory h = tt
   by-export (fault.Open why) h = absurd h
-  by-export (fault.End why) h = tt
+  by-export (fault.End why) h = absurd h
 
   by-acquisition : (why : LiveFault) → AcquisitionFails Gives Loses f why g → Fails why
   by-acquisition (fault.Feed code) h = h
   by-acquisition (fault.Sink code) h = absurd h
   by-acquisition fault.Turns h = tt
-  by-acquisition fault.Counter h = tt
+  by-acquisition fault.Counter h = h
   by-acquisition fault.Memory h = tt
   by-acquisition (fault.Open why) h = absurd h
-  by-acquisition (fault.End why) h = tt
+  by-acquisition (fault.End why) h = subst HasTokens (sym h) tt
 
   by-trigger : (why : LiveFault) → TriggerFails why → Fails why
   by-trigger (fault.Feed code) h = absurd h
   by-trigger (fault.Sink code) h = absurd h
   by-trigger fault.Turns h = tt
-  by-trigger fault.Counter h = tt
+  by-trigger fault.Counter h = absurd h
   by-trigger fault.Memory h = tt
   by-trigger (fault.Open why) h = absurd h
-  by-trigger (fault.End why) h = tt
+  by-trigger (fault.End why) h = subst HasTokens (sym h) tt
 
   pub by-end : {R : Type 0} (came : Result R LiveFault) → IfErr came IsEnd → IfErr came Fails
   by-end (Ok r) h = tt
@@ -434,7 +434,7 @@ module _ {A F K : Type 0} (Gives : GivesOf A F) (Loses : LosesOf F) (Puts : Puts
   by-end (Err fault.Counter) h = absurd h
   by-end (Err fault.Memory) h = absurd h
   by-end (Err (fault.Open why)) h = absurd h
-  by-end (Err (fault.End why)) h = tt
+  by-end (Err (fault.End why)) h = h
 
   -- of a run whose threads were all started
   pub one_failed : {T S U : Type 0} (came : Result (Unit {0}) LiveFault) (a : Result T LiveFault) (b : Result S LiveFault) (e : Result U LiveFault)
@@ -480,7 +480,7 @@ has_cause Gives Loses Puts Lacks o o' kind refused old new (Err (fault.Feed code
 has_cause {K = K} Gives Loses Puts Lacks o o' kind refused old new (Err (fault.Sink code)) same h =
     subst (λ (x : Opening). SinkFailed Puts Lacks x kind old.2 code new.2) same h
 has_cause Gives Loses Puts Lacks o o' kind refused old new (Err fault.Turns) same h = tt
-has_cause Gives Loses Puts Lacks o o' kind refused old new (Err fault.Counter) same h = tt
+has_cause Gives Loses Puts Lacks o o' kind refused old new (Err fault.Counter) same h = h
 has_cause Gives Loses Puts Lacks o o' kind refused old new (Err fault.Memory) same h = tt
 has_cause Gives Loses Puts Lacks o o' kind refused old new (Err (fault.Open why)) same h = absurd h
-has_cause Gives Loses Puts Lacks o o' kind refused old new (Err (fault.End why)) same h = tt
+has_cause Gives Loses Puts Lacks o o' kind refused old new (Err (fault.End why)) same h = h

@@ -13,7 +13,7 @@ use Rattle.dfr_live.specs.declared.station.Fed.TheVariants as fed
 use Rattle.dfr_live.specs.declared.report.LiveFault.{LiveFault}
 use Rattle.dfr_live.specs.declared.report.LiveFault.TheVariants as fault
 use Rattle.dfr_live.specs.Devices.{GivesOf, LosesOf, TakenFor, Came, steps_given, goes_on, all_taken, taken_in, GaveOne, TookIn, GaveAll}
-use Rattle.dfr_live.specs.Causes.{AskFails, AcquisitionFails}
+use Rattle.dfr_live.specs.Causes.{AskFails, AcquisitionFails, CountsNoMore, GaveTooMany}
 use Rattle.dfr_live.proofs.Weaving.{steps_of-append}
 
 scan-more : (s : SourceParts) (scan : ScanParts) → taken_in (after_offer s scan) ≡ taken_in s ++ step.Scan scan ∷ []
@@ -72,15 +72,20 @@ module _ {A F : Type 0} (Gives : GivesOf A F) (Loses : LosesOf F) where
       → GaveSoFar f g s n → Gives g (Ok fed.Done) h → t ≡ s → GaveAll Gives Loses f (taken_in t) h
   gave_last f g h s t n far last same = (far.0, g, far.1, last, far.2 ∙ ap taken_in (sym same))
 
+  -- steps that can't be counted on are too many
+  too_many : (f g : F) (s : SourceParts) (n : ℕ) → GaveSoFar f g s n → CountsNoMore s n → GaveTooMany Gives Loses f
+  too_many f g s n far (inl all) = (far.0, g, far.1, inl (ap (λ (l : List StepParts). length l) far.2 ∙ sym far.3 ∙ all))
+  too_many f g s n far (inr lost) = (far.0, g, far.1, inr (steps_of s.offered, s.lost, lost, far.2))
+
   pub gave_fails : (f g h : F) (s : SourceParts) (n : ℕ) (why : LiveFault)
-      → GaveSoFar f g s n → AskFails Gives g why h → AcquisitionFails Gives Loses f why h
+      → GaveSoFar f g s n → AskFails Gives g s n why h → AcquisitionFails Gives Loses f why h
   gave_fails f g h s n (fault.Feed code) far last = (far.0, g, far.1, last)
   gave_fails f g h s n (fault.Sink code) far last = last
   gave_fails f g h s n fault.Turns far last = tt
-  gave_fails f g h s n fault.Counter far last = tt
+  gave_fails f g h s n fault.Counter far last = too_many f g s n far last
   gave_fails f g h s n fault.Memory far last = last
   gave_fails f g h s n (fault.Open why) far last = last
-  gave_fails f g h s n (fault.End why) far last = tt
+  gave_fails f g h s n (fault.End why) far last = absurd last
 
 -- of the steps taken in, those of scans and of the losses before them are all but the losses since
 pub but_last : (s : SourceParts) (n : ℕ) → n ≡ length (taken_in s) → n ≡ length (steps_of s.offered) + s.lost

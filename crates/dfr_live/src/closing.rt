@@ -1,7 +1,7 @@
 //! The end of a recording in three threads.
 
 ghost use Rattle.std.specs.Prelude.{◌≡◌, ◌≢◌, ◌⊎◌, Ok, Err, IfOk, IfErr};
-ghost use Rattle.dfr_live.specs.Ends.{Ends};
+ghost use Rattle.dfr_live.specs.Ends.{Ends, EachSeatOnce};
 ghost use Rattle.dfr_live.specs.Causes.{IsEnd};
 ghost use Rattle.dfr_live.specs.Report.{Reports};
 
@@ -67,6 +67,7 @@ pub(crate) fn report<N: Session<A>, A: Allocator + Copy>(
     tokens: Vec<Token<A>, A>,
 ) -> Result<LiveReport<A>, LiveFault>
     requires seats { N.seats ≡ 2 }
+    requires once { EachSeatOnce N.seats tokens.items }
     ensures ended { IfOk result (λ report. (reports : Reports N.opening report)
         × (reports.inner ≡ inner) × (reports.source ≡ source) × (reports.tokens ≡ tokens.items)) }
     ensures fault { IfErr result (λ fault. IsEnd fault) }
@@ -93,6 +94,7 @@ fn end_patiently<N: Session<A>, A: Allocator + Copy>(
     source: Source<N, A>,
     tokens: Vec<Token<A>, A>,
 ) -> Result<Ended<A>, LiveFault>
+    requires { EachSeatOnce N.seats tokens.items }
     ensures ended { IfOk result (λ e. Ends inner source tokens.items e) }
     ensures fault { IfErr result (λ fault. IsEnd fault) }
 {

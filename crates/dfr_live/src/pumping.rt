@@ -197,7 +197,8 @@ pub(crate) fn pump_once<'s, N: Session<A>, A: Allocator + Copy>(
     match pumped.stopped {
         End::Most => {}
         End::Empty => {}
-        End::Counter => return Err(LiveFault::Counter),
+        // The acquisition ends before it gives more steps than can be counted.
+        End::Counter => {}
         End::Memory => return signals.short(pace),
     }
     if pumped.scans > 0 {

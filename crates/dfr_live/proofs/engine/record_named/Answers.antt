@@ -1,4 +1,4 @@
-use Rattle.std.proofs.Common.{◌≡◌, ◌⊎◌, ◌∙◌, ◌++◌, ◌∷◌, [], ℕ, List, length, ap, subst, rules, inr}
+use Rattle.std.proofs.Common.{◌≡◌, ◌⊎◌, ◌∙◌, ◌++◌, ◌∷◌, [], ℕ, List, length, ap, sym, subst, rules, inr}
 use Rattle.dfr_recorder.specs.History.{Opening}
 use Rattle.dfr_live.specs.declared.report.LiveFault.{LiveFault}
 use Rattle.dfr_live.specs.declared.report.LiveFault.TheVariants as fault
@@ -7,6 +7,7 @@ use Rattle.dfr_live.specs.Causes.{RunFails}
 use Rattle.dfr_live.proofs.Placing.{Fails, by-export, by-end, front_of_all, got_these, handed_up, or_front}
 use Rattle.dfr_live.specs.Seen.{TokenParts, new_tokens}
 use Rattle.dfr_live.proofs.Recording.{recorded_in, two_gone}
+use Rattle.dfr_live.proofs.Seats.{two_seats}
 use Rattle.dfr_live.proofs.engine.record_named.Goals as goal
 
 pub returns-clause-recorded : goal.returns-clause-recorded
@@ -27,6 +28,17 @@ returns-clause-recorded g c =
     (q.on.1 ∙ p.handed_on.1 ∙ search rules) p.fed p.all p.ordered (q.on.3 p.handed_on.3)
     (got_these g.K.Outlet.puts g.K.Outlet.lacks g.N.Session.opening c.args.kind c.args.outlet.now c.hand_rest.new.outlet c.hand_rest.new.token.made c.hand_rest.new.gone _ (q.on.2 c.args.outlet.now got) (c.is_all_gone.ensures.all (search rules)))
     q.none
+
+pub report-requires-clause-once : goal.report-requires-clause-once
+report-requires-clause-once g c =
+    let p = c.in_ok-run_threads.ensures in
+    let q = c.in_ok-hand_rest.ensures in
+    let new = c.run_threads.new in
+    let two : length c.share_with-shared.result.2.items ≡ 2 = ap (λ (l : List TokenParts). length l) c.share_with-shared.ensures.tokens ∙ ap (λ (n : ℕ). length (new_tokens n)) c.requires.seats in
+    let none = two_gone _ _ c.pop-2.new.self.items c.in-Some-pop.first c.in-Some.second two c.in-Some.ensures.items c.in-Some-pop.ensures.items in
+    two_seats _ _ new.first c.hand_rest.new.token (sym c.requires.named.2 ∙ c.requires.seats)
+    (c.push_reserved-2.ensures.items ∙ ap (λ (l : List TokenParts). l ++ c.hand_rest.new.token ∷ []) (c.push_reserved.ensures.items ∙ ap (λ (l : List TokenParts). l ++ new.first ∷ []) none))
+    (p.seat ∙ search rules) (q.on.0 ∙ p.handed_on.0 ∙ search rules)
 
 pub returns-in_err-run_threads-clause-cause : goal.returns-in_err-run_threads-clause-cause
 returns-in_err-run_threads-clause-cause g c =
