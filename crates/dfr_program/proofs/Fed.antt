@@ -1,7 +1,7 @@
 -- What a run over a script was given: all of its scans and orders.
 use Rattle.std.proofs.Common.{◌≡◌, ◌⊎◌, inl, inr, ℕ, List, [], ◌∷◌, ◌++◌, map, true≢false, Option, Some, None, is_some, Result, Ok, Err, refl, sym, ◌∙◌, ap, subst, arith, append_assoc}
 use Rattle.std.proofs.lemmas.List.{append-nil, map-append}
-use Rattle.std.specs.Prelude.{IfErr, min, max}
+use Rattle.std.specs.Prelude.{IfErr, min, max, ◌≤◌, length}
 use Rattle.dfr_recorder.specs.Steps.{StepParts}
 use Rattle.dfr_recorder.specs.History.{Opening}
 use Rattle.comtrade_format.specs.declared.file.Kind.{Kind}
@@ -11,18 +11,19 @@ use Rattle.dfr_live.specs.declared.entry.Reply.{Reply}
 use Rattle.dfr_live.specs.Calls.{open_fault}
 use Rattle.dfr_live.specs.declared.outcome.OpenFault.{OpenFault}
 use Rattle.dfr_live.specs.declared.outcome.OpenFault.TheVariants as open_refused
-use Rattle.dfr_live.specs.declared.station.Fed.{Fed}
-use Rattle.dfr_live.specs.declared.station.Fed.TheVariants as fed
 use Rattle.dfr_live.specs.declared.station.Order.{Order}
 use Rattle.dfr_live.specs.declared.report.LiveFault.{LiveFault}
 use Rattle.dfr_live.specs.declared.report.LiveFault.TheVariants as fault
 use Rattle.dfr_live.specs.declared.report.LiveReport.{LiveReport}
-use Rattle.dfr_live.specs.Devices.{GivesOf, AsksOf, HearsOf, PutsOf, TakenFor, Came, GaveOne, GaveAll, FeedFailed, all_taken, steps_given, taken_in, never, asks_plainly, hears_plainly, stops, call_in, Noted, noted, Turn, Waits, Makes, Desked, new_desk, TookTurn, MadeAll, GotFront}
+use Rattle.dfr_live.specs.Devices.{GivesOf, AsksOf, HearsOf, PutsOf, Came, taken_in, never, asks_plainly, hears_plainly, stops, call_in, Noted, noted, Turn, Waits, Makes, Desked, new_desk, TookTurn, MadeAll, GotFront}
 use Rattle.dfr_live.specs.Causes.{HasCause}
+use Rattle.dfr_live.specs.Listed.{FeedsNext}
+use Rattle.dfr_live.proofs.Listed.{gave_all, never_failed, so_many}
+use Rattle.dfr_live.specs.declared.ended.EndFault.TheVariants as end_refused
 use Rattle.dfr_live.specs.Report.{Recorded}
 use Rattle.dfr_program.specs.declared.plan.Scans.{Scans}
 use Rattle.dfr_program.specs.declared.plan.Placed.{Placed}
-use Rattle.dfr_program.specs.Plans.{scans_in, orders_in, steps_left, orders_left, placed, calls_made, call_at, FeedsNext, OrdersNext}
+use Rattle.dfr_program.specs.Plans.{scans_in, orders_in, steps_left, orders_left, placed, calls_made, call_at, OrdersNext}
 use Rattle.dfr_program.specs.Live.{given_by, Ran}
 use Rattle.dfr_program.specs.Reports.{run_word}
 
@@ -70,33 +71,6 @@ module _ {A : Type 0} where
 
   abbrev pub Hears : HearsOf (Placed A)
   Hears s at reply on t = hears_plainly s reply on t
-
-  one-less : (old : List StepParts) (r : Result (Fed A) ℕ) (new : List StepParts) → FeedsNext old r new → old ≡ steps_given r ++ new
-  one-less old (Ok (fed.Scan scan)) new h = h
-  one-less old (Ok fed.Lost) new h = h
-  one-less old (Ok fed.NotYet) new h = absurd h
-  one-less old (Ok fed.Done) new h = h.0 ∙ sym h.1
-  one-less old (Err code) new h = absurd h
-
-  one-taken : (s t : Scans A) (x : TakenFor A) → GaveOne Feeds never s x t → steps_left s ≡ x.1 ++ steps_left t
-  one-taken s t x (on, inl (h, is)) = one-less (steps_left s) x.0 (steps_left t) h ∙ ap (λ (l : List StepParts). l ++ steps_left t) (sym is)
-  one-taken s t x (on, inr lost) = absurd lost.4
-
-  less : (xs : List (TakenFor A)) (s t : Scans A) → Came (GaveOne Feeds never) s xs t → steps_left s ≡ all_taken xs ++ steps_left t
-  less [] s t h = ap steps_left h
-  less (x ∷ xs) s t h =
-      less xs s h.0 h.1
-      ∙ ap (λ (l : List StepParts). all_taken xs ++ l) (one-taken h.0 t x h.2)
-      ∙ sym (append_assoc (all_taken xs) x.1 (steps_left t))
-
-  -- a feed over a script that said that no scan comes any more has given all
-  pub gave-all : (s t : Scans A) (steps : List StepParts) → GaveAll Feeds never s steps t → steps ≡ steps_left s
-  gave-all s t steps (given, m, came, done, same) =
-      sym same ∙ sym (append-nil (all_taken given)) ∙ ap (λ (l : List StepParts). all_taken given ++ l) (sym done.0) ∙ sym (less given s m came)
-
-  -- it never fails
-  pub never-failed : (s t : Scans A) (code : ℕ) → FeedFailed Feeds never s code t → ⊥
-  never-failed s t code (given, m, came, failed) = failed
 
   -- so far these orders were handed out, and their calls noted
   abbrev Ordered : ℕ → Placed A → Desked (Placed A) → Type 0
@@ -149,7 +123,7 @@ module _ {A : Type 0} where
   ran Puts kind o s f f' p p' k k' r scans orders h =
       record {
         reports = h.report;
-        fed = gave-all f f' (taken_in h.report.source) h.fed ∙ scans;
+        fed = gave_all {A = A} steps_left f f' (taken_in h.report.source) h.fed ∙ scans;
         none_left = h.none_left;
         ordered = made-all p p' _ r.stepped h.ordered ∙ ap (calls_made r.stepped 0) orders;
         one = h.one;
@@ -160,25 +134,30 @@ module _ {A : Type 0} where
   -- why it failed, where its fault has a word
   failed : {K : Type 0} (Puts : PutsOf K) (kind : Kind) (o : Opening) (s : ScriptParts)
       (f f' : Scans A) (p p' : Placed A) (k k' : K) (why : LiveFault) (word : List ℕ)
+      → steps_left f ≡ scans_in s.commands
       → HasCause Feeds never Puts (λ s _ what t. stops s what t) o kind None (f, p, k) (f', p', k') why
       → GotFront Puts (λ s _ what t. stops s what t) o kind k k' → run_word why ≡ Some word
       → (given_by Puts kind k k' s).Fails o why
-  failed Puts kind o s f f' p p' k k' (fault.Feed code) word cause front named = absurd (never-failed f f' code cause)
-  failed Puts kind o s f f' p p' k k' (fault.Sink code) word cause front named = (cause, front)
-  failed Puts kind o s f f' p p' k k' fault.Turns word cause front named = (tt, front)
-  failed Puts kind o s f f' p p' k k' fault.Counter word cause front named = (tt, front)
-  failed Puts kind o s f f' p p' k k' fault.Memory word cause front named = absurd (none-named named)
-  failed Puts kind o s f f' p p' k k' (fault.Open why) word cause front named = absurd (open-failed why word named cause.1)
-  failed Puts kind o s f f' p p' k k' (fault.End why) word cause front named = (tt, front)
+  failed Puts kind o s f f' p p' k k' (fault.Feed code) word scans cause front named = absurd (never_failed {A = A} steps_left f f' code cause)
+  failed Puts kind o s f f' p p' k k' (fault.Sink code) word scans cause front named = (cause, front)
+  failed Puts kind o s f f' p p' k k' fault.Turns word scans cause front named = (tt, front)
+  failed Puts kind o s f f' p p' k k' fault.Counter word scans cause front named =
+      (subst (λ (l : List StepParts). 4_294_967_295 ≤ length l) scans (so_many {A = A} steps_left f cause), front)
+  failed Puts kind o s f f' p p' k k' fault.Memory word scans cause front named = absurd (none-named named)
+  failed Puts kind o s f f' p p' k k' (fault.Open why) word scans cause front named = absurd (open-failed why word named cause.1)
+  failed Puts kind o s f f' p p' k k' (fault.End end_refused.Tokens) word scans cause front named = absurd cause
+  failed Puts kind o s f f' p p' k k' (fault.End end_refused.Mismatch) word scans cause front named = (refl, front)
+  failed Puts kind o s f f' p p' k k' (fault.End end_refused.Memory) word scans cause front named = absurd (none-named named)
 
   -- so of a run over a new recorder
   pub all_failed : {K R : Type 0} (Puts : PutsOf K) (kind : Kind) (o : Opening) (s : ScriptParts) (scans : ℕ)
       (f f' : Scans A) (p p' : Placed A) (k k' : K) (came : Result R LiveFault) → scans ≡ 0
+      → steps_left f ≡ scans_in s.commands
       → IfErr came (HasCause Feeds never Puts (λ s _ what t. stops s what t) o kind (open_fault scans 1_024 2) (f, p, k) (f', p', k'))
       → IfErr came (λ why. (why ≡ fault.Memory) ⊎ GotFront Puts (λ s _ what t. stops s what t) o kind k k')
       → IfErr came (λ why. (word : List ℕ) → run_word why ≡ Some word → (given_by Puts kind k k' s).Fails o why)
-  all_failed Puts kind o s scans f f' p p' k k' (Ok r) new cause front = tt
-  all_failed Puts kind o s scans f f' p p' k k' (Err why) new cause front = λ word named.
-      failed Puts kind o s f f' p p' k k' why word
+  all_failed Puts kind o s scans f f' p p' k k' (Ok r) new same cause front = tt
+  all_failed Puts kind o s scans f f' p p' k k' (Err why) new same cause front = λ word named.
+      failed Puts kind o s f f' p p' k k' why word same
       (subst (λ (n : ℕ). HasCause Feeds never Puts (λ s _ what t. stops s what t) o kind (open_fault n 1_024 2) (f, p, k) (f', p', k') why) new cause)
       (fronted why word named front) named

@@ -1,5 +1,5 @@
 -- What a live run writes: the line of a fault, or the report of the run.
-use Rattle.std.specs.Prelude.{◌≡◌, ℕ, List, [], map, filter, ⊤, Option, Some, None, Result, Ok, Err, Bool, true, false}
+use Rattle.std.specs.Prelude.{◌≡◌, ℕ, ◌≤◌, List, [], length, map, filter, ⊤, Option, Some, None, Result, Ok, Err, Bool, true, false}
 use Rattle.std.specs.Io.KnownBytes.{Appends}
 use Rattle.dfr_recorder.specs.History.{Opening}
 use Rattle.dfr_recorder.specs.Steps.{StepParts}
@@ -12,6 +12,7 @@ use Rattle.dfr_live.specs.Devices.{PutsOf, taken_in, stops, GotAll, GotFront, Si
 use Rattle.dfr_live.specs.Gone.{records_taken}
 use Rattle.dfr_live.specs.OneList.{OneList, step_from}
 use Rattle.dfr_live.specs.Report.{Reports}
+use Rattle.dfr_live.specs.declared.ended.EndFault.TheVariants as end_refused
 use Rattle.dfr_live.specs.declared.report.LiveFault.{LiveFault}
 use Rattle.dfr_live.specs.declared.report.LiveFault.TheVariants as fault
 use Rattle.dfr_live.specs.declared.report.LiveReport.{LiveReport}
@@ -31,16 +32,17 @@ pub record GivenParts : Type 1 where
   pub Sinks : Opening → List EntryParts → List StepParts → Type 0
   pub Fails : Opening → LiveFault → Type 0
 
--- why a run over a script ended with a fault that is printed: a script's feed never fails, and its recorder can be opened; a sink refused the
--- files of a record, after those of others; out of memory isn't printed
-abbrev pub WhyFailed : {K : Type 0} → PutsOf K → Kind → K → K → Opening → LiveFault → Type 0
-WhyFailed Puts kind old new o (fault.Feed code) = ⊥
-WhyFailed Puts kind old new o (fault.Sink code) = SinkFailed Puts (λ s _ what t. stops s what t) o kind old code new
-WhyFailed Puts kind old new o fault.Turns = ⊤
-WhyFailed Puts kind old new o fault.Counter = ⊤
-WhyFailed Puts kind old new o fault.Memory = ⊥
-WhyFailed Puts kind old new o (fault.Open why) = ⊥
-WhyFailed Puts kind old new o (fault.End why) = ⊤
+-- why a run over a script with these scans ended with a fault that is printed: a script's feed never fails, and its recorder can be opened; a
+-- sink refused the files of a record, after those of others; a counter came to its end only if there are so many scans and losses; calls and
+-- log do not agree; out of memory isn't printed
+abbrev pub WhyFailed : {K : Type 0} → PutsOf K → Kind → K → K → List StepParts → Opening → LiveFault → Type 0
+WhyFailed Puts kind old new scans o (fault.Feed code) = ⊥
+WhyFailed Puts kind old new scans o (fault.Sink code) = SinkFailed Puts (λ s _ what t. stops s what t) o kind old code new
+WhyFailed Puts kind old new scans o fault.Turns = ⊤
+WhyFailed Puts kind old new scans o fault.Counter = 4_294_967_295 ≤ length scans
+WhyFailed Puts kind old new scans o fault.Memory = ⊥
+WhyFailed Puts kind old new scans o (fault.Open why) = ⊥
+WhyFailed Puts kind old new scans o (fault.End why) = why ≡ end_refused.Mismatch
 
 -- what the script gives it; the sink got the files of the records that the list of steps takes; where the run failed, those of some
 -- records, and then at most those of one that it refused
@@ -50,7 +52,7 @@ given_by Puts kind old new s = record {
   orders = orders_in 0 s.commands;
   Sinks = λ o made steps.
       GotAll Puts (λ s _ what t. stops s what t) o kind old made (Some (records_taken o (followed_by [] steps))) new;
-  Fails = λ o why. WhyFailed Puts kind old new o why × GotFront Puts (λ s _ what t. stops s what t) o kind old new;
+  Fails = λ o why. WhyFailed Puts kind old new (scans_in s.commands) o why × GotFront Puts (λ s _ what t. stops s what t) o kind old new;
 }
 
 -- a report on a run in threads over this opening, of all that it was given: the source took in the steps of its scans, and none is left;

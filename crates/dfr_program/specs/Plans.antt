@@ -1,6 +1,6 @@
 -- What a live run is given of a script: the scans that are fed, lost ones among them, and the orders
 -- with their places.
-use Rattle.std.specs.Prelude.{◌≡◌, ℕ, ◌+◌, List, [], ◌∷◌, ◌++◌, length, map, min, max, Option, Some, None, Result, Ok, Err, option_map}
+use Rattle.std.specs.Prelude.{◌≡◌, ℕ, ◌+◌, List, [], ◌∷◌, ◌++◌, length, map, min, max, Option, Some, None, option_map}
 use Rattle.std.specs.List.{flat_map}
 use Rattle.std.specs.Vec.Iter.{into_iter_items}
 use Rattle.comtrade_values.specs.Faults.{◌or◌}
@@ -12,8 +12,6 @@ use Rattle.dfr_script.specs.Parts.{CommandParts, ScriptParts}
 use Rattle.dfr_script.specs.Parts as command
 use Rattle.dfr_live.specs.Parts.{CallParts, EntryParts}
 use Rattle.dfr_live.specs.Parts as call
-use Rattle.dfr_live.specs.declared.station.Fed.{Fed}
-use Rattle.dfr_live.specs.declared.station.Fed.TheVariants as fed
 use Rattle.dfr_live.specs.declared.station.Order.{Order}
 use Rattle.dfr_live.specs.Devices.{call_in}
 use Rattle.dfr_program.specs.declared.plan.Given.{Given}
@@ -101,15 +99,7 @@ steps_left s = map given (into_iter_items s.rest)
 abbrev pub orders_left : {A : Type 0} → Placed A → List (ℕ × CallParts)
 orders_left p = map placed (into_iter_items p.rest)
 
--- the first step that is left is given, and the others are left then; where none is left, the end. There is always one or the other
-abbrev pub FeedsNext : {A : Type 0} → List StepParts → Result (Fed A) ℕ → List StepParts → Type 0
-FeedsNext old (Ok (fed.Scan scan)) new = old ≡ step.Scan scan ∷ new
-FeedsNext old (Ok fed.Lost) new = old ≡ step.Lost ∷ new
-FeedsNext old (Ok fed.NotYet) new = ⊥
-FeedsNext old (Ok fed.Done) new = (old ≡ []) × (new ≡ [])
-FeedsNext old (Err code) new = ⊥
-
--- so with orders
+-- the first order that is left is given, and the others are left then; where none is left, none is given
 abbrev pub OrdersNext : {A : Type 0} → List (ℕ × CallParts) → Option (ℕ × Order A) → List (ℕ × CallParts) → Type 0
 OrdersNext old (Some order) new = old ≡ placed order ∷ new
 OrdersNext old None new = (old ≡ []) × (new ≡ [])

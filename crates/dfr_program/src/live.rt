@@ -165,8 +165,10 @@ fn run_script<A: Allocator + Copy + Send + Sync, K: Sink + Send, R: Threads + Wa
 ///
 /// Returns false where it printed the line of an error, of the script or of the run. Where the
 /// script has an error, nothing runs and the sink is unchanged. `fault feed` and `fault open` are
-/// never printed, and `fault sink` only where the sink refused the files of a record. After an error
-/// of the run the sink got the files of some records, and then at most those of one that it refused.
+/// never printed, `fault sink` only where the sink refused the files of a record, and `fault
+/// counter` only where the script has at least 4,294,967,295 scans and losses. `fault end` says that
+/// the calls made and the log do not agree. After an error of the run the sink got the files of some
+/// records, and then at most those of one that it refused.
 ///
 /// - `Memory`: an allocation failed, or a thread could not be started. Nothing was written to `w`.
 /// - `Output`: a write failed. Only part of the text was written.

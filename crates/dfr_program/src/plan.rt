@@ -3,6 +3,7 @@
 ghost use Rattle.std.specs.Prelude.{◌≡◌, ◌++◌, [], None, Some, option_map, map, length, MatchResult};
 ghost use Rattle.dfr_channels.specs.Firing.{rules_fault};
 ghost use Rattle.dfr_script.specs.Commands.{parts_of};
+ghost use Rattle.dfr_live.specs.Listed.{FeedsNext};
 ghost use Rattle.dfr_program.specs.Faults.{IsMadeOf, Refuses, script_in};
 ghost use Rattle.dfr_program.specs.Plans as spec;
 ghost use Rattle.dfr_program.specs.declared.prepared.Fault.TheVariants as faults;
@@ -59,7 +60,7 @@ impl<A: Allocator> Scans<A> {
 }
 
 impl<A: Allocator> Feed<A> for Scans<A> {
-    ghost gives = { λ s r t. spec.FeedsNext (spec.steps_left s) r (spec.steps_left t) };
+    ghost gives = { λ s r t. FeedsNext (spec.steps_left s) r (spec.steps_left t) };
 
     fn next(&mut self) -> Result<Fed<A>, u32> {
         match self.rest.next() {

@@ -16,5 +16,5 @@ returns-clause-text g c =
     ran g.K.Sink.puts c.args.kind o s c.of-feed.result came.new.feed c.of-orders.result came.new.orders
     c.args.sink.now came.new.sink r (c.of-feed.ensures ∙ scans) (c.of-orders.ensures ∙ orders) recorded))
     (all_failed g.K.Sink.puts c.args.kind o s _ c.of-feed.result came.new.feed c.of-orders.result came.new.orders
-    c.args.sink.now came.new.sink came.result new came.ensures.cause came.ensures.front)
+    c.args.sink.now came.new.sink came.result new (c.of-feed.ensures ∙ scans) came.ensures.cause came.ensures.front)
     tells)
