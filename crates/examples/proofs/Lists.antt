@@ -1,6 +1,6 @@
 -- What `run_live` comes to over a list of scans and a list of files.
-use Rattle.std.proofs.Common.{◌≡◌, inl, inr, ℕ, List, [], ◌∷◌, ◌++◌, map, Bool, true, false, true≢false, Option, Some, None, Result, Ok, Err, refl, sym, ◌∙◌, ap, subst, arith, append_assoc}
-use Rattle.std.specs.Prelude.{All, filter, IfErr, IfSome, IsErrAnd}
+use Rattle.std.proofs.Common.{◌≡◌, ℕ, List, [], ◌∷◌, ◌++◌, map, Bool, true, false, true≢false, Option, Some, None, Result, Ok, Err, refl, sym, ◌∙◌, ap, subst, arith, append_assoc}
+use Rattle.std.specs.Prelude.{◌≤◌, All, filter, length, IfErr, IfSome, IsErrAnd}
 use Rattle.std.proofs.lemmas.List.{append-nil, map-append}
 use Rattle.std.proofs.lemmas.List.Elements.{All-head, All-tail, All-push}
 use Rattle.dfr_channels.specs.Parts.{SetupParts}
@@ -11,14 +11,14 @@ use Rattle.dfr_recorder.specs.declared.record.Extent.{Extent}
 use Rattle.comtrade_format.specs.declared.file.Kind.{Kind}
 use Rattle.dfr_live.specs.Parts.{EntryParts}
 use Rattle.dfr_live.specs.Ends.{is_by}
-use Rattle.dfr_live.specs.Devices.{GivesOf, AsksOf, HearsOf, PutsOf, LacksOf, TakenFor, Came, GaveOne, GaveAll, all_taken, steps_given, taken_in, never, asks_plainly, hears_plainly, stops, Noted, noted, Turn, Waits, Makes, Desked, new_desk, TookTurn, MadeAll, FilesParts, files_of, extents_taken, Tried, HandedOn, Handed, IsTaken, extents_of, records_of}
+use Rattle.dfr_live.specs.Devices.{GivesOf, AsksOf, HearsOf, PutsOf, LacksOf, Came, taken_in, never, asks_plainly, hears_plainly, stops, Noted, noted, Turn, Waits, Makes, Desked, new_desk, TookTurn, MadeAll, FilesParts, files_of, extents_taken, Tried, HandedOn, Handed, IsTaken, extents_of, records_of}
 use Rattle.dfr_live.specs.Causes.{HasCause}
+use Rattle.dfr_live.specs.Listed.{FeedsNext}
+use Rattle.dfr_live.proofs.Listed.{gave_all, never_failed, so_many}
 use Rattle.dfr_live.specs.Report.{Recorded}
 use Rattle.dfr_live.specs.declared.devices.Short.{Short}
 use Rattle.dfr_live.specs.declared.devices.Short.TheVariants as short
 use Rattle.dfr_live.specs.declared.outcome.OpenFault.{OpenFault}
-use Rattle.dfr_live.specs.declared.station.Fed.{Fed}
-use Rattle.dfr_live.specs.declared.station.Fed.TheVariants as fed
 use Rattle.dfr_live.specs.declared.station.Order.{Order}
 use Rattle.dfr_live.specs.declared.report.LiveFault.{LiveFault}
 use Rattle.dfr_live.specs.declared.report.LiveFault.TheVariants as fault
@@ -26,7 +26,7 @@ use Rattle.dfr_live.specs.declared.report.LiveReport.{LiveReport}
 use Rattle.examples.specs.declared.listed.ListFeed.{ListFeed}
 use Rattle.examples.specs.declared.listed.ListSink.{ListSink}
 use Rattle.examples.specs.declared.listed.NoOrders.{NoOrders}
-use Rattle.examples.specs.Lists.{steps_left, FeedsNext, HandsNone, kept, Keeps, records_in, extents, IsRecorded, CanFail}
+use Rattle.examples.specs.Lists.{steps_left, HandsNone, kept, Keeps, records_in, extents, IsRecorded, CanFail}
 
 abbrev is-stop : Short → Bool
 is-stop short.Again = false
@@ -85,31 +85,6 @@ module _ {A : Type 0} where
   abbrev Lacks : LacksOf (ListSink A)
   Lacks s extent what t = stops s what t
 
-  -- ---- the feed
-
-  one-less : (old : List StepParts) (r : Result (Fed A) ℕ) (new : List StepParts) → FeedsNext old r new → old ≡ steps_given r ++ new
-  one-less old (Ok (fed.Scan scan)) new h = h
-  one-less old (Ok fed.Lost) new h = h
-  one-less old (Ok fed.NotYet) new h = absurd h
-  one-less old (Ok fed.Done) new h = h.0 ∙ sym h.1
-  one-less old (Err code) new h = absurd h
-
-  one-taken : (s t : ListFeed A) (x : TakenFor A) → GaveOne Gives never s x t → steps_left s ≡ x.1 ++ steps_left t
-  one-taken s t x (on, inl (h, is)) = one-less (steps_left s) x.0 (steps_left t) h ∙ ap (λ (l : List StepParts). l ++ steps_left t) (sym is)
-  one-taken s t x (on, inr lost) = absurd lost.4
-
-  less : (xs : List (TakenFor A)) (s t : ListFeed A) → Came (GaveOne Gives never) s xs t → steps_left s ≡ all_taken xs ++ steps_left t
-  less [] s t h = ap steps_left h
-  less (x ∷ xs) s t h =
-      less xs s h.0 h.1
-      ∙ ap (λ (l : List StepParts). all_taken xs ++ l) (one-taken h.0 t x h.2)
-      ∙ sym (append_assoc (all_taken xs) x.1 (steps_left t))
-
-  -- a feed over a list that said that no scan comes any more has given all
-  gave-all : (s t : ListFeed A) (steps : List StepParts) → GaveAll Gives never s steps t → steps ≡ steps_left s
-  gave-all s t steps (given, m, came, done, same) =
-      sym same ∙ sym (append-nil (all_taken given)) ∙ ap (λ (l : List StepParts). all_taken given ++ l) (sym done.0) ∙ sym (less given s m came)
-
   -- ---- the orders
 
   no-turns : (steps : ℕ) (p : NoOrders) (turns : List (Turn A)) (s : Desked NoOrders)
@@ -157,7 +132,7 @@ module _ {A : Type 0} where
         report = r;
         reports = h.report;
         one = h.one;
-        fed = gave-all f f' (taken_in h.report.source) h.fed ∙ all;
+        fed = gave_all {A = A} steps_left f f' (taken_in h.report.source) h.fed ∙ all;
         none_left = h.none_left;
         no_orders = no-calls p p' (filter (is_by 0) r.ended.log.items) r.stepped h.ordered;
         takes = h.takes;
@@ -170,12 +145,14 @@ module _ {A : Type 0} where
         all_closed = each ∙ h.all_closed;
       }
 
-  pub can-fail : (o : Opening) (kind : Kind) (refused : Option OpenFault) (f f' : ListFeed A) (p p' : NoOrders) (k k' : ListSink A) (why : LiveFault)
-      → HasCause Gives never Puts Lacks o kind refused (f, p, k) (f', p', k') why → CanFail why
-  can-fail o kind refused f f' p p' k k' (fault.Feed code) (given, m, came, failed) = failed
-  can-fail o kind refused f f' p p' k k' (fault.Sink code) (records, m, r, got, taken, (tries, n, tried, put)) = put.0
-  can-fail o kind refused f f' p p' k k' fault.Turns cause = tt
-  can-fail o kind refused f f' p p' k k' fault.Counter cause = tt
-  can-fail o kind refused f f' p p' k k' fault.Memory cause = tt
-  can-fail o kind refused f f' p p' k k' (fault.Open why) cause = tt
-  can-fail o kind refused f f' p p' k k' (fault.End why) cause = tt
+  pub can-fail : (o : Opening) (kind : Kind) (refused : Option OpenFault) (all : List StepParts) (f f' : ListFeed A) (p p' : NoOrders) (k k' : ListSink A)
+      (why : LiveFault) (steps : ℕ) → steps_left f ≡ all → length all ≡ steps
+      → HasCause Gives never Puts Lacks o kind refused (f, p, k) (f', p', k') why → CanFail steps why
+  can-fail o kind refused all f f' p p' k k' (fault.Feed code) steps same count cause = never_failed {A = A} steps_left f f' code cause
+  can-fail o kind refused all f f' p p' k k' (fault.Sink code) steps same count (records, m, r, got, taken, (tries, n, tried, put)) = put.0
+  can-fail o kind refused all f f' p p' k k' fault.Turns steps same count cause = tt
+  can-fail o kind refused all f f' p p' k k' fault.Counter steps same count cause =
+      subst (λ (n : ℕ). 4_294_967_295 ≤ n) (ap (λ (l : List StepParts). length l) same ∙ count) (so_many {A = A} steps_left f cause)
+  can-fail o kind refused all f f' p p' k k' fault.Memory steps same count cause = tt
+  can-fail o kind refused all f f' p p' k k' (fault.Open why) steps same count cause = tt
+  can-fail o kind refused all f f' p p' k k' (fault.End why) steps same count cause = cause

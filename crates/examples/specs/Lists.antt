@@ -1,5 +1,5 @@
 -- A recording of a list of scans in three threads, and the list of files that it leaves.
-use Rattle.std.specs.Prelude.{◌≡◌, ℕ, List, [], ◌∷◌, ◌++◌, map, filter, ⊤, Option, Some, None, Result, Ok, Err, All}
+use Rattle.std.specs.Prelude.{◌≡◌, ℕ, ◌≤◌, List, [], ◌∷◌, ◌++◌, map, filter, ⊤, Option, Some, None, Result, Ok, Err, All}
 use Rattle.std.specs.Vec.Iter.{into_iter_items}
 use Rattle.dfr_channels.specs.Parts.{ScanParts}
 use Rattle.dfr_recorder.specs.Parts.{RecordParts}
@@ -15,8 +15,7 @@ use Rattle.dfr_live.specs.Gone.{records_taken}
 use Rattle.dfr_live.specs.Closed.{extents_closed}
 use Rattle.dfr_live.specs.Devices.{FilesParts, files_of, taken_in, extents_taken, IsTaken, IsTake}
 use Rattle.dfr_live.specs.Report.{Reports}
-use Rattle.dfr_live.specs.declared.station.Fed.{Fed}
-use Rattle.dfr_live.specs.declared.station.Fed.TheVariants as fed
+use Rattle.dfr_live.specs.Causes.{HasTokens}
 use Rattle.dfr_live.specs.declared.station.Order.{Order}
 use Rattle.dfr_live.specs.declared.report.LiveFault.{LiveFault}
 use Rattle.dfr_live.specs.declared.report.LiveFault.TheVariants as fault
@@ -33,14 +32,6 @@ step_of None = step.Lost
 -- the steps that a feed hasn't given yet
 abbrev pub steps_left : {A : Type 0} → ListFeed A → List StepParts
 steps_left s = map step_of (into_iter_items s.rest)
-
--- the first step that is left is given, and the others are left then; where none is left, the end
-abbrev pub FeedsNext : {A : Type 0} → List StepParts → Result (Fed A) ℕ → List StepParts → Type 0
-FeedsNext old (Ok (fed.Scan scan)) new = old ≡ step.Scan scan ∷ new
-FeedsNext old (Ok fed.Lost) new = old ≡ step.Lost ∷ new
-FeedsNext old (Ok fed.NotYet) new = ⊥
-FeedsNext old (Ok fed.Done) new = (old ≡ []) × (new ≡ [])
-FeedsNext old (Err code) new = ⊥
 
 -- no order is ever handed out
 abbrev pub HandsNone : {A : Type 0} → Option (ℕ × Order A) → Type 0
@@ -83,12 +74,12 @@ pub record IsRecorded (A : Type 0) (o : Opening) (kind : Kind) (steps : List Ste
   pub none_waits : report.ended.recorder.shelf ≡ []
   pub all_closed : extents (records_in o one.list) ≡ extents_closed o (map step_from one.list)
 
--- a feed over a list never fails, and the sink fails only for want of memory
-abbrev pub CanFail : LiveFault → Type 0
-CanFail (fault.Feed code) = ⊥
-CanFail (fault.Sink code) = code ≡ 1
-CanFail fault.Turns = ⊤
-CanFail fault.Counter = ⊤
-CanFail fault.Memory = ⊤
-CanFail (fault.Open why) = ⊤
-CanFail (fault.End why) = ⊤
+-- how a run over so many steps can fail: a feed over a list never does, and the sink only for want of memory
+abbrev pub CanFail : ℕ → LiveFault → Type 0
+CanFail steps (fault.Feed code) = ⊥
+CanFail steps (fault.Sink code) = code ≡ 1
+CanFail steps fault.Turns = ⊤
+CanFail steps fault.Counter = 4_294_967_295 ≤ steps
+CanFail steps fault.Memory = ⊤
+CanFail steps (fault.Open why) = ⊤
+CanFail steps (fault.End why) = HasTokens why

@@ -1,8 +1,9 @@
 //! A recording in three threads from a list of scans to a list of files. Its devices say what each
 //! of their calls does (`gives`, `hands`, `puts`), so the contract says what the whole run gives.
 
-ghost use Rattle.std.specs.Prelude.{◌≡◌, map, IfOk, IfErr, IfSome, Err};
+ghost use Rattle.std.specs.Prelude.{◌≡◌, length, map, IfOk, IfErr, IfSome, Err};
 ghost use Rattle.dfr_live.specs.Calls.{open_fault};
+ghost use Rattle.dfr_live.specs.Listed.{FeedsNext};
 ghost use Rattle.dfr_live.specs.Seen.{opening_of};
 ghost use Rattle.examples.specs.Lists as spec;
 
@@ -25,7 +26,7 @@ struct ListFeed<A: Allocator> {
 }
 
 impl<A: Allocator> Feed<A> for ListFeed<A> {
-    ghost gives = { λ s r t. spec.FeedsNext (spec.steps_left s) r (spec.steps_left t) };
+    ghost gives = { λ s r t. FeedsNext (spec.steps_left s) r (spec.steps_left t) };
 
     fn next(&mut self) -> Result<Fed<A>, u32> {
         match self.rest.next() {
@@ -79,7 +80,8 @@ impl<A: Allocator + Copy> Sink for ListSink<A> {
 /// By the contract the source took in exactly the scans of the list, lost ones too, and none is
 /// left. The list of files has, in order, those of each record that closed: the record that a
 /// recorder in one thread gives at that point of the list of steps. No finished record is left. The
-/// error is never `Feed`, and `Sink` only with the code 1: no memory.
+/// error is never `Feed`, `Sink` only with the code 1: no memory, and `Counter` only where the list
+/// is of 4,294,967,295 scans or more.
 pub fn record_list<A: Allocator + Copy + Send + Sync, R: Threads + Wait + Sync>(
     rt: &R,
     alloc: A,
@@ -91,7 +93,7 @@ pub fn record_list<A: Allocator + Copy + Send + Sync, R: Threads + Wait + Sync>(
         (map spec.step_of scans.items) (map spec.files_in pairs.items)) }
     ensures open { IfSome (open_fault recorder.scans 64 2)
         (λ fault. result ≡ Err (LiveFault.Open fault)) }
-    ensures fault { IfErr result spec.CanFail }
+    ensures fault { IfErr result (spec.CanFail (length scans.items)) }
 {
     let (lane, turns) = (64, 1_000_000_000); // as in `recorder`
     let mut feed = ListFeed {

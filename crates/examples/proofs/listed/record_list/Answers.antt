@@ -1,4 +1,5 @@
-use Rattle.std.proofs.Common.{map, refl, rules}
+use Rattle.std.proofs.Common.{length, map, refl, rules}
+use Rattle.std.proofs.lemmas.List.{length-map}
 use Rattle.dfr_live.specs.Seen.{opening_of}
 use Rattle.examples.specs.Lists.{step_of, CanFail}
 use Rattle.examples.proofs.Lists.{recorded, can-fail, handed-up, opened-up}
@@ -12,8 +13,9 @@ returns-clause-files g c =
 pub returns-in_err-run_live-clause-fault : goal.returns-in_err-run_live-clause-fault
 returns-in_err-run_live-clause-fault g c =
     let came = c.in_err-run_live in
-    handed-up c.from_residual.result came.field-0.0 CanFail c.from_residual.ensures.1
-    (can-fail (opening_of c.args.recorder) c.args.kind _ _ c.run_live.new.feed _ c.run_live.new.orders _ c.run_live.new.sink came.field-0.0 came.ensures.cause)
+    handed-up c.from_residual.result came.field-0.0 (CanFail (length c.args.scans.items)) c.from_residual.ensures.1
+    (can-fail (opening_of c.args.recorder) c.args.kind _ (map step_of c.args.scans.items) _ c.run_live.new.feed _ c.run_live.new.orders _ c.run_live.new.sink came.field-0.0
+    (length c.args.scans.items) (search rules) (length-map c.args.scans.items step_of) came.ensures.cause)
 
 pub returns-in_err-run_live-clause-open : goal.returns-in_err-run_live-clause-open
 returns-in_err-run_live-clause-open g c =
