@@ -12,16 +12,16 @@ QUIET = {"revision-1991", "revision-2013", "sides-absent", "years-2-digits", "da
          "dates-dmy", "dates-ambiguous", "lines-2013-dropped", "kind-binary32", "kind-float32",
          "values-wide", "values-decimal", "values-rounded", "cff", "inf-dropped", "hdr-dropped",
          "range-form", "texts-not-ascii", "text-long", "phase-long", "unit-empty", "a-zero",
-         "trigger-before-first"}
-# What import tells of texts that the views show as they are, and of what stays as it is.
+         "trigger-before-first", "stamps-absent", "times-unknown", "status-spare-bits",
+         "dat-after-end"}
+# What import tells of texts that the views show as they are.
 UNTOLD = {"bom", "texts-not-ascii", "text-long", "phase-long", "unit-empty", "ids-alike",
-          "text-nul", "text-comma", "trigger-before-first", "a-zero", "status-spare-bits",
-          "dat-after-end"}
-# What is told of samples that a written pair can't hold, and of their ranges: import writes 16 bits,
-# the views show 32.
+          "text-nul", "text-comma"}
+# What is told of samples that a written pair can't hold, and of their ranges: import writes
+# 16 bits, the views show 32.
 OF_SIZE = {"values-rounded", "values-wide", "range-form"}
 EPOCH, MILLION = datetime(1970, 1, 1), 10 ** 6
-PLAIN = re.compile(rb"[A-Za-z0-9 /_.-]*")
+PLAIN = re.compile(rb"[A-Za-z0-9 /_.-]*(?: \[[A-Za-z0-9 /_.-]*\])?")
 
 
 def keys_of(said):
@@ -46,8 +46,8 @@ def read_plainly(files, keys=frozenset()):
 
 
 def step_of(record, k):
-    """Half a step of a channel whose samples are rounded to 32 bits, and a little more: the step is a
-    power of ten, of which at least 429 million are between the least and the greatest."""
+    """Half a step of a channel whose samples are rounded to 32 bits, and a little more: the step is
+    a power of ten, of which at least 429 million are between the least and the greatest."""
     known = [row[2][k] for row in record.rows if row[2][k] is not None]
     span = max(known, default=0) - min(known, default=0)
     a, b = abs(record.head.analog[k][2]), abs(record.head.analog[k][3])
@@ -109,13 +109,11 @@ def with_instants(record, rows, nanos):
 
 def with_names(record, rows):
     """The names of the columns, where they are plain and differ."""
-    wanted = [b"%s [%s]" % (one[0], one[1]) if one[1] else one[0]
-              for one in record.head.analog] + record.head.status
+    wanted = [b"%s [%s]" % (one[0], one[1]) for one in record.head.analog] + record.head.status
     if len(set(wanted)) != len(wanted):
         return
     for name, found in zip(wanted, rows.names):
-        is_plain = PLAIN.fullmatch(name) and name[:1] not in b"-" and not found.endswith(" [NONE]")
-        if is_plain and name.decode() != found:
+        if PLAIN.fullmatch(name) and name[:1] not in b"-" and name.decode() != found:
             yield told("name", name, found)
 
 

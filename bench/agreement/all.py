@@ -2,6 +2,7 @@
 model."""
 import json
 import os
+import warnings
 
 import compare
 import measures
@@ -11,6 +12,7 @@ import traces
 from against import keys_of, read_plainly, with_model, OF_SIZE, QUIET, UNTOLD
 from views import Page, Picture, Rows, Shown, as_json, run
 
+HAS_LIBRARY = bool(os.environ.get("DFR_COMTRADE_LIBRARY"))
 VIEWS = (["show"], ["show", "--json"], ["list"], ["events"], ["measure"], ["plot"], ["page"],
          ["measure", "--at=0"])
 
@@ -23,7 +25,12 @@ class Told:
         self.keys = keys_of(self.said)
 
 
-def refused_by_all(comtrade, names, folder):
+def is_plain(record):
+    """Whether the library can open these files: no archives."""
+    return HAS_LIBRARY and set(record) <= {"cfg", "dat", "cff"}
+
+
+def refused_by_all(comtrade, record, names, folder):
     """A record that csv refuses is refused by every command, with a reason and without output."""
     for words in VIEWS:
         status, out, said = run(comtrade, *words,
@@ -34,6 +41,8 @@ def refused_by_all(comtrade, names, folder):
     status, _, said = run(comtrade, "import", *names, os.path.join(folder, "new"))
     if status != 1 or os.path.exists(os.path.join(folder, "new.cfg")):
         yield "csv refuses, import: status %d: %s" % (status, said.strip()[-200:])
+    if is_plain(record) and by_library(names):
+        yield "csv refuses, the library reads"
 
 
 def with_notes(comtrade, names, csv):
@@ -91,7 +100,30 @@ def with_page(comtrade, names, show, rows, csv, measured, folder):
         yield from pages.with_script(shown, show, rows, measured)
 
 
-def with_import(comtrade, show, rows, keys, folder, has_library):
+def by_library(names):
+    """The record that the C library reads; None where it refuses the files."""
+    import dfr_comtrade
+    with warnings.catch_warnings():
+        warnings.simplefilter("ignore")
+        try:
+            return dfr_comtrade.read(*names)
+        except (dfr_comtrade.CfgFault, dfr_comtrade.DatFault):
+            return None
+
+
+def with_library(names, keys, show, written):
+    """What the C library reads of the files themselves: the samples and notes of import."""
+    record = by_library(names)
+    if record is None:
+        yield "csv: status 0, the library refuses"
+        return
+    if keys_of("\n".join(record.notes)) != keys:
+        yield "the library tells other notes than import: %s, %s" % (record.notes, sorted(keys))
+    for what in compare.with_library(record, show, written):
+        yield "of the files themselves: " + what
+
+
+def with_import(comtrade, record, names, rows, keys, folder, show):
     new = os.path.join(folder, "new")
     status, out, said = run(comtrade, "csv", new)
     if status != 0 or said:
@@ -99,10 +131,11 @@ def with_import(comtrade, show, rows, keys, folder, has_library):
         return
     written = Rows(out, len(show["analog"]))
     yield from compare.with_import(written, rows, "values-rounded" in keys)
-    if has_library:
-        import dfr_comtrade
+    if HAS_LIBRARY:
         again = as_json(comtrade, "show", "--json", new)
-        yield from compare.with_library(dfr_comtrade.read(new + ".cfg"), again, written)
+        yield from compare.with_library(by_library([new + ".cfg"]), again, written)
+        if is_plain(record):
+            yield from with_library(names, keys, again, written)
 
 
 def with_plain(record, rows, csv, seen):
@@ -143,7 +176,7 @@ def disagreements(comtrade, record, names, chance, folder, seen):
     csv = Told(comtrade, names)
     if csv.status != 0:
         seen["refused by all"] += 1
-        yield from refused_by_all(comtrade, names, folder)
+        yield from refused_by_all(comtrade, record, names, folder)
         return
     status, out, said = run(comtrade, "import", *names, os.path.join(folder, "new"))
     if status != 0:
@@ -169,5 +202,4 @@ def disagreements(comtrade, record, names, chance, folder, seen):
     else:
         seen["compared in all"] += 1
         yield from of_times(comtrade, names, show, rows, csv, chance, folder)
-    yield from with_import(comtrade, show, rows, keys, folder,
-                           bool(os.environ.get("DFR_COMTRADE_LIBRARY")))
+    yield from with_import(comtrade, record, names, rows, keys, folder, show)

@@ -62,13 +62,12 @@ def with_show(show, rows):
         if contact["first"] != rows.bits[k][0]:
             yield told("show first of %s" % contact["id"], contact["first"], rows.bits[k][0])
         wanted = changes_of(rows, k)
-        found = re.findall(r"([01]) at (-?[0-9.]+)", str(contact["changes"] or ""))
-        more = re.search(r" and ([0-9]+) more$", str(contact["changes"] or ""))
-        if len(found) + int(more[1] if more else 0) != len(wanted):
-            yield told("show changes of %s" % contact["id"], contact["changes"], wanted)
-        for (bit, at), (wanted_at, wanted_bit) in zip(found, wanted):
-            if int(bit) != wanted_bit or not near(float(at), wanted_at, 0, MICRO):
-                yield told("show change of %s" % contact["id"], (bit, at), (wanted_bit, wanted_at))
+        found = contact["changes"]
+        if len(found) != len(wanted):
+            yield told("show changes of %s" % contact["id"], found, wanted)
+        for change, (at, bit) in zip(found, wanted):
+            if change["bit"] != bit or not near(change["ms"], at, 0, MICRO):
+                yield told("show change of %s" % contact["id"], change, (at, bit))
 
 
 def with_list(listed, show, rows):
@@ -78,7 +77,7 @@ def with_list(listed, show, rows):
         yield "list trigger: %r, show %r" % (line["trigger"], show["trigger"])
     if not near(line["ms"], rows.millis[-1] - rows.millis[0], 0, 2 * MICRO):
         yield told("list ms", line["ms"], rows.millis[-1] - rows.millis[0])
-    if line["channels"] != "%dA %dD" % (len(show["analog"]), len(show["status"])):
+    if line["channels"] != {"analog": len(show["analog"]), "status": len(show["status"])}:
         yield told("list channels", line["channels"], (len(show["analog"]), len(show["status"])))
     changed = sum(1 for k in range(len(rows.bits)) if changes_of(rows, k))
     if line["changed"] != changed:
@@ -90,12 +89,13 @@ def with_list(listed, show, rows):
             if least is not None:
                 peak = max(least, greatest, key=abs), channel["unit"]
                 peaks.setdefault(channel["id"], []).append(peak)
-    said = re.match(r"(.*) (-?[0-9.e+-]+) (k?A), of nominal ", line["greatest_current"] or "")
-    if bool(said) != bool(peaks):
-        yield told("list greatest_current", line["greatest_current"], peaks)
-    elif said and not any(near(float(said[2]), v, SIX) or near(float(said[2]), -v, SIX)
-                          for v, unit in peaks.get(said[1], []) if unit == said[3]):
-        yield told("list greatest_current", line["greatest_current"], peaks.get(said[1]))
+    said, place = line["greatest_current"], line["current_id"]
+    if (said is not None) != bool(peaks):
+        yield told("list greatest_current", said, peaks)
+    elif said is not None and not any(near(abs(said), abs(v), SIX)
+                                      for v, unit in peaks.get(place, [])
+                                      if unit == line["current_unit"]):
+        yield told("list greatest_current", said, peaks.get(place))
 
 
 def gaps_of(rows):

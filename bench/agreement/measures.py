@@ -58,6 +58,8 @@ def with_measure(made, show, rows, skews):
             continue
         if not near(channel["rms"], rms(values), 1e-12, beside):
             yield told("measure rms of " + name, channel["rms"], rms(values))
+        if channel["dc_fall"] is not None:
+            continue  # the fit has a line, which a Fourier sum doesn't
         phasor = fundamental(values)
         turn = -2j * math.pi * show["frequency"] * skews[k] * 1e-6
         phasors[channel["n"]] = phasor * cmath.exp(turn)

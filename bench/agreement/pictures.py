@@ -21,6 +21,14 @@ def around(values, row, cycle):
     return before, after
 
 
+def is_level(text, unit, wanted):
+    """Whether a text is this value; that of a channel with the same name and another unit isn't."""
+    try:
+        return near(sized(text, unit), wanted, FOUR)
+    except ValueError:
+        return False
+
+
 def with_levels(picture, show, rows, row):
     """The rms values in `plot` around an inception or a trigger, where a cycle has a whole number
     of rows."""
@@ -36,8 +44,8 @@ def with_levels(picture, show, rows, row):
         sets = [[value for value in around(rows.values[k], row, int(cycle)) if value is not None]
                 for k in named]
         if not any(len(parts) == len(wanted)
-                   and all(near(sized(part, show["analog"][k]["unit"]), one, FOUR) for part,
-                           one in zip(parts, wanted))
+                   and all(is_level(part, show["analog"][k]["unit"], one)
+                           for part, one in zip(parts, wanted))
                    for k, wanted in zip(named, sets)):
             yield told("plot rms of %s" % name, said, sets)
 

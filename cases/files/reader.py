@@ -40,7 +40,7 @@ class Record:
 
     def events(self):
         """(instant, nanoseconds since the trigger, text), in the order of time."""
-        found = [(self.trigger, 0, 0, f"trigger of {self.station}, {self.device}")]
+        found = [(self.trigger, 0, 0, f"trigger of {self.station.strip()}, {self.device.strip()}")]
         width = 2 + len(self.analog)
         for k, channel in enumerate(self.status):
             for i in range(1, len(self.rows)):

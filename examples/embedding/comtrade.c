@@ -53,7 +53,19 @@ struct core_lengths {
 int32_t comtrade_core_import(const uint8_t *cfg, size_t, const uint8_t *dat, size_t, bool is_single, uint32_t order, const uint8_t *encoding, size_t,
                              uint8_t *new_cfg, size_t, uint8_t *new_dat, size_t, uint8_t *notes, size_t, struct core_lengths *);
 
+int32_t comtrade_core_cycle(const uint8_t *cfg, size_t, size_t rate, uint64_t cycles, uint64_t *rows, struct comtrade_fault *);
+int32_t comtrade_core_rms(const uint8_t *cfg, size_t, size_t channel, const int32_t *samples, size_t, double *value, struct comtrade_fault *);
+struct core_measure {
+    double rms, re, im, dc, fall, peak, residual;
+    size_t peak_row, orders;
+    bool has_angle;
+};
+int32_t comtrade_core_measure(const uint8_t *cfg, size_t, size_t channel, size_t rate, double a, double b, const int32_t *samples, size_t,
+                              double *orders, size_t, struct core_measure *, struct comtrade_fault *);
+
 struct comtrade {
+    uint8_t *cfg;
+    size_t cfg_length;
     struct core_head head;
     size_t rows;
     struct core_analog *analog;
@@ -79,6 +91,7 @@ const char *comtrade_answer_text(int32_t answer) {
         "the buffer is too short", "there is no such channel, rate or row", "a file cannot be read or written",
         "the `size` of a struct is too small for any version", "a pointer is NULL, or an argument is not valid for the call",
         "the files cannot be read, also not by `comtrade import`",
+        "no such measure: no frequency or rate, too few rows, or a missing sample",
     };
     return 0 <= answer && answer < (int32_t)(sizeof words / sizeof *words) ? words[answer] : "not an answer of this library";
 }
@@ -145,6 +158,7 @@ static void *room_for(size_t count, size_t size) {
 
 void comtrade_close(comtrade *record) {
     if (!record) return;
+    free(record->cfg);
     free(record->analog);
     free(record->normal);
     free(record->rates);
@@ -191,6 +205,14 @@ static int32_t read_rows(comtrade *r, const uint8_t *cfg, size_t cfg_length, con
     return answer == COMTRADE_DONE ? comtrade_core_times(cfg, cfg_length, r->stamps, rows, r->times, rows, fault) : answer;
 }
 
+/* Measures read the numbers of the configuration file with all their digits. */
+static int32_t keep_cfg(comtrade *r, const uint8_t *cfg, size_t cfg_length) {
+    r->cfg = (uint8_t *)room_for(cfg_length, 1), r->cfg_length = cfg_length;
+    if (!r->cfg) return COMTRADE_NO_MEMORY;
+    memcpy(r->cfg, cfg, cfg_length);
+    return COMTRADE_DONE;
+}
+
 int32_t comtrade_open(const uint8_t *cfg, size_t cfg_length, const uint8_t *dat, size_t dat_length, comtrade **record,
                       struct comtrade_fault *fault) {
     struct comtrade_fault unsaid;
@@ -203,6 +225,7 @@ int32_t comtrade_open(const uint8_t *cfg, size_t cfg_length, const uint8_t *dat,
     int32_t answer = comtrade_core_head(cfg, cfg_length, &r->head, fault);
     if (answer == COMTRADE_DONE) answer = read_channels(r, cfg, cfg_length, fault);
     if (answer == COMTRADE_DONE) answer = read_rows(r, cfg, cfg_length, dat, dat_length, fault);
+    if (answer == COMTRADE_DONE) answer = keep_cfg(r, cfg, cfg_length);
     if (answer == COMTRADE_DONE)
         *record = r;
     else
@@ -481,6 +504,75 @@ int32_t comtrade_times(const comtrade *r, size_t first, size_t count, int64_t *t
     int32_t answer = asked(r, 0, 1, first, count, to);
     if (answer == COMTRADE_DONE && count) memcpy(to, r->times + first, count * sizeof *to);
     return answer;
+}
+
+/* The rate of a row, and its first row. */
+static int32_t rate_of(const comtrade *r, size_t row, size_t *rate, size_t *from) {
+    size_t begin = 0;
+    for (size_t k = 0; r->head.nrates && k < r->head.rates; k++) {
+        if (row < r->rates[k].endsamp) {
+            *rate = k, *from = begin;
+            return COMTRADE_DONE;
+        }
+        begin = (size_t)r->rates[k].endsamp;
+    }
+    return COMTRADE_NO_MEASURE;
+}
+
+/* The samples of a channel in these rows, in a block to be freed. NULL if memory runs out. */
+static int32_t *samples_of(const comtrade *r, size_t channel, size_t first, size_t rows) {
+    int32_t *samples = (int32_t *)room_for(rows, sizeof *samples);
+    for (size_t k = 0; samples && k < rows; k++) samples[k] = r->samples[(first + k) * r->head.analog + channel];
+    return samples;
+}
+
+int32_t comtrade_rms(const comtrade *r, size_t channel, size_t first, size_t count, double *rms) {
+    struct comtrade_fault unsaid;
+    if (!r || !rms || channel == COMTRADE_ALL) return COMTRADE_BAD_CALL;
+    int32_t answer = asked(r, channel, r->head.analog, first, count, rms), *samples;
+    if (answer != COMTRADE_DONE) return answer;
+    samples = samples_of(r, channel, first, count);
+    if (!samples) return COMTRADE_NO_MEMORY;
+    answer = comtrade_core_rms(r->cfg, r->cfg_length, channel, samples, count, rms, &unsaid);
+    free(samples);
+    return answer;
+}
+
+/* The whole rows of the last so many cycles that end with a row, all at its rate. */
+static int32_t cycles_to(const comtrade *r, size_t row, uint32_t cycles, size_t *rate, size_t *first, size_t *count) {
+    struct comtrade_fault unsaid;
+    size_t from = 0;
+    uint64_t rows = 0;
+    int32_t answer = rate_of(r, row, rate, &from);
+    if (answer == COMTRADE_DONE) answer = comtrade_core_cycle(r->cfg, r->cfg_length, *rate, cycles, &rows, &unsaid);
+    if (answer == COMTRADE_DONE && (!rows || row < from || row + 1 - from < rows)) answer = COMTRADE_NO_MEASURE;
+    if (answer == COMTRADE_DONE) *count = (size_t)rows, *first = row + 1 - (size_t)rows;
+    return answer;
+}
+
+static void show(const struct core_measure *from, struct comtrade_measure *to) {
+    to->rms = from->rms, to->re = from->re, to->im = from->im, to->dc = from->dc, to->fall = from->fall, to->peak = from->peak;
+    to->residual = from->residual, to->peak_row = to->first + from->peak_row, to->orders = from->orders, to->has_angle = from->has_angle;
+}
+
+int32_t comtrade_measure(const comtrade *r, size_t channel, size_t row, uint32_t cycles, struct comtrade_measure *measure) {
+    struct comtrade_measure said;
+    struct core_measure found;
+    struct comtrade_fault unsaid;
+    size_t rate = 0;
+    if (!r || !measure || !cycles) return COMTRADE_BAD_CALL;
+    if (r->head.analog <= channel || r->rows <= row) return COMTRADE_NO_ITEM;
+    memset(&said, 0, sizeof said);
+    int32_t answer = cycles_to(r, row, cycles, &rate, &said.first, &said.rows), *samples;
+    if (answer != COMTRADE_DONE) return answer;
+    samples = samples_of(r, channel, said.first, said.rows);
+    if (!samples) return COMTRADE_NO_MEMORY;
+    answer = comtrade_core_measure(r->cfg, r->cfg_length, channel, rate, r->analog[channel].a, r->analog[channel].b, samples, said.rows,
+                                   said.order, COMTRADE_ORDERS, &found, &unsaid);
+    free(samples);
+    if (answer != COMTRADE_DONE) return answer;
+    show(&found, &said);
+    return give(measure, &said, sizeof said);
 }
 
 /* A configuration file being composed. `fault` gets a kind at the first thing that cannot be written. */

@@ -56,7 +56,8 @@ enum {
     COMTRADE_NO_FILE = 7,     /* a file cannot be read or written; errno gives the reason */
     COMTRADE_BAD_SIZE = 8,    /* the `size` of a struct is not that of any version */
     COMTRADE_BAD_CALL = 9,    /* a pointer is NULL, or a number is not one that the call accepts */
-    COMTRADE_REFUSED = 10     /* comtrade_import cannot read the files; `why` tells the reason */
+    COMTRADE_REFUSED = 10,    /* comtrade_import cannot read the files; `why` tells the reason */
+    COMTRADE_NO_MEASURE = 11  /* there are too few rows, or a sample is missing */
 };
 /* The return code in words, such as "the buffer is too short". Never NULL. */
 const char *comtrade_answer_text(int32_t answer);
@@ -218,6 +219,36 @@ int32_t comtrade_stamps(const comtrade *record, size_t first, size_t count, uint
  * time, or one that an int64_t can't hold. */
 #define COMTRADE_NO_TIME INT64_MIN
 int32_t comtrade_times(const comtrade *record, size_t first, size_t count, int64_t *to);
+
+/* The rms value of an analogue channel over `count` rows from row `first` on: the root of the mean
+ * square of its values, within 3 units of the last place of a double. NO_ITEM if there is no such
+ * channel or if one of the rows doesn't exist; NO_MEASURE if there is no row, if a sample is missing,
+ * or if the values have too many digits; NO_MEMORY. */
+int32_t comtrade_rms(const comtrade *record, size_t channel, size_t first, size_t count, double *rms);
+
+/* What is measured of an analogue channel over whole cycles, in its unit: the numbers of
+ * `comtrade measure`. */
+#define COMTRADE_ORDERS 25
+struct comtrade_measure {
+    size_t size;
+    size_t first, rows; /* the rows of the cycles; a fraction of a row is left out */
+    double rms;         /* of the signal over the cycles, with the fraction of a row */
+    double re, im;      /* the fundamental: re + j im is an rms value and an angle, that of a cosine at
+                         * row `first`, corrected for the channel's skew */
+    double dc;          /* the dc component: its mean */
+    double fall;        /* how far it falls over the rows, where it decays; else a NaN */
+    double peak;        /* the value farthest from 0; the first one, if several are */
+    double residual;    /* the rms value of what these and the orders leave of the signal */
+    size_t peak_row;
+    size_t orders;      /* how many orders are measured: those below half the rows of a cycle */
+    double order[COMTRADE_ORDERS]; /* their rms values, from the fundamental on */
+    bool has_angle;     /* false: the fundamental is at most a 10^9th of the peak */
+};
+/* Measures the last `cycles` whole cycles of the line frequency that end with `row`, all at its
+ * rate. NO_ITEM if there is no such channel or row; NO_MEASURE if the record has no line frequency or
+ * rate, or less than three rows a cycle, if there are fewer rows than the cycles have, or a sample is
+ * missing; NO_MEMORY. */
+int32_t comtrade_measure(const comtrade *record, size_t channel, size_t row, uint32_t cycles, struct comtrade_measure *measure);
 
 /* An analogue and a status channel to be written. Texts end with a zero; NULL is an empty text. */
 struct comtrade_analog_setup {

@@ -102,6 +102,19 @@ static int32_t imports(struct made *m) { return imported(old_cfg, NULL, &m->reco
 static int32_t imports_exact(struct made *m) { return comtrade_import(cfg, cfg_length, dat, dat_length, NULL, &m->record, NULL, 0, NULL); }
 static int32_t imports_ill(struct made *m) { return imported("x,y,2525\r\n", NULL, &m->record, NULL, 0, NULL); }
 
+static comtrade *wave;
+static int32_t measures(struct made *m) {
+    struct comtrade_measure found;
+    found.size = sizeof found;
+    (void)m;
+    return comtrade_measure(wave, 0, 22, 1, &found);
+}
+static int32_t squares(struct made *m) {
+    double rms;
+    (void)m;
+    return comtrade_rms(wave, 0, 3, 20, &rms);
+}
+
 /* The call frees what it made, and nothing else is held then. */
 static int32_t answer_of(int32_t (*call)(struct made *), struct made *m, long refusal) {
     memset(m, 0, sizeof *m);
@@ -218,6 +231,78 @@ static void words(void) {
     WANT(comtrade_explain(cfg, first, dat, dat_length, NULL, 1, NULL), COMTRADE_BAD_CALL);
 }
 
+/* A record of 45 rows at 1000 rows per second and 50 Hz: the samples 10 and -10 of a factor of 0.1, of which the third is missing. */
+enum { WAVE_ROWS = 45 };
+static int32_t opens_wave(comtrade **record) {
+    struct comtrade_analog_setup channel;
+    struct comtrade_setup made;
+    struct comtrade_rate rate = {sizeof rate, 1000, WAVE_ROWS};
+    int32_t samples[WAVE_ROWS];
+    uint8_t *new_cfg = NULL, *new_dat = NULL;
+    size_t cfg_size = 0, dat_size = 0;
+    for (int k = 0; k < WAVE_ROWS; k++) samples[k] = k == 2 ? COMTRADE_NO_SAMPLE : k % 2 ? -10 : 10;
+    memset(&channel, 0, sizeof channel);
+    channel.id = "IA", channel.unit = "A", channel.a = 0.1, channel.primary = channel.secondary = 1, channel.min = -10, channel.max = 10;
+    memset(&made, 0, sizeof made);
+    made.size = sizeof made, made.station = "S", made.device = "D", made.analog = &channel, made.analog_count = 1, made.rates = &rate;
+    made.rate_count = 1, made.rows = WAVE_ROWS, made.samples = samples, made.line_freq = 50, made.timemult = 1, made.binary = true;
+    WANT(comtrade_write(&made, &new_cfg, &cfg_size, &new_dat, &dat_size, NULL), COMTRADE_DONE);
+    int32_t answer = comtrade_open(new_cfg, cfg_size, new_dat, dat_size, record, NULL);
+    comtrade_free(new_cfg);
+    comtrade_free(new_dat);
+    return answer;
+}
+
+static bool is_near(double x, double wanted) { return x - wanted < 1e-12 && wanted - x < 1e-12; }
+
+/* Nothing of these samples has an order below half the rows of a cycle. */
+static void measured_edges(void) {
+    struct comtrade_measure found;
+    comtrade *r = NULL;
+    WANT(opens_wave(&r), COMTRADE_DONE);
+    found.size = sizeof found;
+    WANT(comtrade_measure(r, 0, 22, 1, &found), COMTRADE_DONE);
+    WANT(found.first, 3);
+    WANT(found.rows, 20);
+    WANT(is_near(found.rms, 1.0) && is_near(found.residual, 1.0) && is_near(found.dc, 0.0) && found.peak == -1.0, 1);
+    WANT(is_near(found.re, 0.0) && is_near(found.im, 0.0) && !found.has_angle && found.fall != found.fall, 1);
+    WANT(found.peak_row, 3);
+    WANT(found.orders, 9);
+    WANT(is_near(found.order[0], 0.0) && is_near(found.order[8], 0.0) && found.order[9] == 0.0, 1);
+    WANT(comtrade_measure(r, 0, 42, 2, &found), COMTRADE_DONE);
+    WANT(found.first, 3);
+    WANT(comtrade_measure(r, 0, 21, 1, &found), COMTRADE_NO_MEASURE); /* a sample is missing */
+    WANT(comtrade_measure(r, 0, 18, 1, &found), COMTRADE_NO_MEASURE);
+    WANT(comtrade_measure(r, 0, WAVE_ROWS - 1, 3, &found), COMTRADE_NO_MEASURE);
+    WANT(comtrade_measure(r, 0, WAVE_ROWS - 1, UINT32_MAX, &found), COMTRADE_NO_MEASURE);
+    WANT(found.first, 3);
+    WANT(comtrade_measure(r, 0, WAVE_ROWS, 1, &found), COMTRADE_NO_ITEM);
+    WANT(comtrade_measure(r, 1, 22, 1, &found), COMTRADE_NO_ITEM);
+    WANT(comtrade_measure(r, 0, 22, 0, &found), COMTRADE_BAD_CALL);
+    WANT(comtrade_measure(r, 0, 22, 1, NULL), COMTRADE_BAD_CALL);
+    WANT(comtrade_measure(NULL, 0, 22, 1, &found), COMTRADE_BAD_CALL);
+    found.size--;
+    WANT(comtrade_measure(r, 0, 22, 1, &found), COMTRADE_BAD_SIZE);
+    comtrade_close(r);
+}
+
+static void rms_edges(void) {
+    double rms = 7.0;
+    comtrade *r = NULL;
+    WANT(opens_wave(&r), COMTRADE_DONE);
+    WANT(comtrade_rms(r, 0, 1, 2, &rms), COMTRADE_NO_MEASURE); /* a sample is missing */
+    WANT(comtrade_rms(r, 0, 3, 0, &rms), COMTRADE_NO_MEASURE);
+    WANT(comtrade_rms(r, 0, WAVE_ROWS - 1, 2, &rms), COMTRADE_NO_ITEM);
+    WANT(comtrade_rms(r, 1, 3, 1, &rms), COMTRADE_NO_ITEM);
+    WANT(comtrade_rms(r, COMTRADE_ALL, 3, 1, &rms), COMTRADE_BAD_CALL);
+    WANT(comtrade_rms(r, 0, 3, 1, NULL), COMTRADE_BAD_CALL);
+    WANT(comtrade_rms(NULL, 0, 3, 1, &rms), COMTRADE_BAD_CALL);
+    WANT(rms == 7.0, 1);
+    WANT(comtrade_rms(r, 0, 3, 42, &rms), COMTRADE_DONE);
+    WANT(is_near(rms, 1.0), 1);
+    comtrade_close(r);
+}
+
 static void imported_edges(void) {
     static const char *const keys[] = {"revision-1991:", "sides-absent:", "years-2-digits:", "dates-mdy:"};
     struct comtrade_choices choices = {sizeof choices, NULL, COMTRADE_DATES_AS_USUAL};
@@ -283,6 +368,7 @@ int main(int argc, char **argv) {
     cfg_length = contents(argv[1], cfg), dat_length = contents(argv[2], dat);
     setup.size = sizeof setup, setup.analog = &channel, setup.analog_count = 1, setup.rates = &rate, setup.rate_count = 1;
     setup.rows = 2, setup.samples = samples, setup.line_freq = 50, setup.timemult = 1, setup.binary = true;
+    WANT(opens_wave(&wave), COMTRADE_DONE);
     for (int k = 0; k < 2; k++) {
         alone = k != 0;
         ill += !refuses("comtrade_open", opens, COMTRADE_DONE) + !refuses("comtrade_open, short data", opens_short, COMTRADE_DAT_FAULT)
@@ -291,7 +377,8 @@ int main(int argc, char **argv) {
             + !refuses("comtrade_write", writes, COMTRADE_DONE) + !refuses("comtrade_write, a comma", writes_ill, COMTRADE_WRITE_FAULT)
             + !refuses("comtrade_write, a far sample", writes_beyond, COMTRADE_WRITE_FAULT) + !refuses("comtrade_import", imports, COMTRADE_DONE)
             + !refuses("comtrade_import, an exact pair", imports_exact, COMTRADE_DONE)
-            + !refuses("comtrade_import, no COMTRADE file", imports_ill, COMTRADE_REFUSED);
+            + !refuses("comtrade_import, no COMTRADE file", imports_ill, COMTRADE_REFUSED)
+            + !refuses("comtrade_measure", measures, COMTRADE_DONE) + !refuses("comtrade_rms", squares, COMTRADE_DONE);
     }
     WANT(comtrade_open(NULL, 1, dat, dat_length, &record, NULL), COMTRADE_BAD_CALL);
     WANT(comtrade_open(cfg, cfg_length, dat, dat_length, NULL, NULL), COMTRADE_BAD_CALL);
@@ -305,9 +392,12 @@ int main(int argc, char **argv) {
     WANT(comtrade_write(&setup, &to, &length, &to, &length, NULL), COMTRADE_BAD_CALL);
     words();
     imported_edges();
+    measured_edges();
+    rms_edges();
     comtrade_close(NULL);
     WANT(comtrade_open(cfg, cfg_length, dat, dat_length, &record, NULL), COMTRADE_DONE);
     if (record) edges(record);
     comtrade_close(record);
+    comtrade_close(wave);
     return ill != 0;
 }

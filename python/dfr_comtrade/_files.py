@@ -5,6 +5,8 @@ import secrets
 from typing import List, Optional, Tuple, Union
 
 Name = Union[str, "os.PathLike[str]"]
+WHOLE = (".cff", ".cff.gz", ".zip", ".cfz")  # a file with one of these endings is a whole record
+ENDINGS = (".cfg", ".dat", ".cfg.gz", ".dat.gz") + WHOLE
 IMPORT = "run: comtrade import FILE NAME first"
 
 
@@ -13,9 +15,10 @@ def split(name: Name, endings: Tuple[str, ...]) -> Tuple[str, str]:
     text = os.fspath(name)
     if not isinstance(text, str):
         raise TypeError(f"a path is a str, not {type(text).__name__}")
-    ending = text[-4:].lower()
-    if ending in endings and os.path.basename(text[:-4]):
-        return text[:-4], ending
+    for ending in endings:
+        stem = text[: -len(ending)]
+        if text.lower().endswith(ending) and os.path.basename(stem):
+            return stem, ending
     return text, ""
 
 
@@ -40,7 +43,7 @@ def _search(stem: str, ending: str) -> Optional[str]:
     fitting = [name for name in names if _key(name) == _key(base + ending)]
     if not fitting:
         return None
-    best = min(fitting, key=lambda name: (name[:-4] != base, os.fsencode(name)))
+    best = min(fitting, key=lambda name: (name[: -len(ending)] != base, os.fsencode(name)))
     return os.path.join(folder, best)
 
 
@@ -50,24 +53,42 @@ def _missing(name: Name, stem: str, endings: Tuple[str, ...]) -> FileNotFoundErr
     return FileNotFoundError(errno.ENOENT, f"found no {looked}, in upper or lower case, in the folder {folder or '.'}", os.fspath(name))
 
 
+def is_single_text(cfg: bytes) -> bool:
+    """Whether these bytes begin as a single file does, with a separator line."""
+    text = cfg[3:] if cfg.startswith(b"\xef\xbb\xbf") else cfg
+    return text.lstrip().startswith(b"---")
+
+
+def _is_single(name: str) -> bool:
+    with open(name, "rb") as file:
+        return is_single_text(file.read(1000))
+
+
+def _either(text: str, stem: str, given: str, ending: str) -> Optional[str]:
+    """The file that is named if it has this ending, plain or compressed; else that of the same stem, a plain one first."""
+    if given in (ending, ending + ".gz"):
+        return text
+    return _search(stem, ending) or _search(stem, ending + ".gz")
+
+
 def pair_of(name: Name) -> Tuple[str, Optional[str]]:
-    """The configuration file and the data file of a record by one name: either of them, or the name that they share. A single file (.cff)
-    has no data file. The command `comtrade` finds the same files. Raises FileNotFoundError."""
+    """The configuration file and the data file of a record by one name: either of them, or the name that they share. A single file (.cff) and
+    an archive (.zip, .cfz) have no data file. The command `comtrade` finds the same files. Raises FileNotFoundError."""
     text = os.fspath(name)
-    stem, given = split(name, (".cfg", ".dat", ".cff"))
+    stem, given = split(name, ENDINGS)
     if given and not os.path.lexists(text):
         raise FileNotFoundError(errno.ENOENT, os.strerror(errno.ENOENT), text)
-    if given == ".cff":
+    if given in WHOLE:
         return text, None
-    cfg = text if given == ".cfg" else _search(stem, ".cfg")
+    cfg = _either(text, stem, given, ".cfg")
     if cfg is None and not given:
-        single = _search(stem, ".cff")
+        single = next(filter(None, (_search(stem, ending) for ending in WHOLE)), None)
         if single is not None:
             return single, None
     if cfg is None:
         raise _missing(name, stem, (".cfg",) if given else (".cfg", ".cff"))
-    dat = text if given == ".dat" else _search(stem, ".dat")
-    if dat is None:
+    dat = _either(text, stem, given, ".dat")
+    if dat is None and not _is_single(cfg):
         raise _missing(name, stem, (".dat",))
     return cfg, dat
 

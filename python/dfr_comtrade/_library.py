@@ -12,7 +12,7 @@ NO_SAMPLE = -(2**31)
 NO_STAMP = 2**64 - 1
 NO_TIME = -(2**63)
 
-DONE, CFG_FAULT, DAT_FAULT, WRITE_FAULT, NO_MEMORY, NO_ROOM, NO_ITEM, NO_FILE, BAD_SIZE, BAD_CALL, REFUSED = range(11)
+DONE, CFG_FAULT, DAT_FAULT, WRITE_FAULT, NO_MEMORY, NO_ROOM, NO_ITEM, NO_FILE, BAD_SIZE, BAD_CALL, REFUSED, NO_MEASURE = range(12)
 STATION, DEVICE, ANALOG_ID, ANALOG_PHASE, ANALOG_COMPONENT, ANALOG_UNIT, STATUS_ID, STATUS_PHASE, STATUS_COMPONENT = range(9)
 
 
@@ -51,6 +51,14 @@ class Status(Sized):
 
 class Rate(Sized):
     _fields_ = [("size", c_size_t), ("samp", c_double), ("endsamp", c_uint64)]
+
+
+class Measure(Sized):
+    _fields_ = [
+        ("size", c_size_t), ("first", c_size_t), ("rows", c_size_t), ("rms", c_double), ("re", c_double), ("im", c_double), ("dc", c_double),
+        ("fall", c_double), ("peak", c_double), ("residual", c_double), ("peak_row", c_size_t), ("orders", c_size_t), ("order", c_double * 25),
+        ("has_angle", c_bool),
+    ]
 
 
 class AnalogSetup(Structure):
@@ -106,6 +114,8 @@ def _load() -> ctypes.CDLL:
         "stamps": [c_void_p, c_size_t, c_size_t, c_void_p],
         "times": [c_void_p, c_size_t, c_size_t, c_void_p],
         "import": [c_char_p, c_size_t, c_char_p, c_size_t, POINTER(Choices), POINTER(c_void_p), out, c_size_t, POINTER(c_size_t)],
+        "measure": [c_void_p, c_size_t, c_size_t, c_uint32, POINTER(Measure)],
+        "rms": [c_void_p, c_size_t, c_size_t, c_size_t, POINTER(c_double)],
         "note": [c_void_p, c_size_t, out, c_size_t, POINTER(c_size_t)],
         "explain": [c_char_p, c_size_t, c_char_p, c_size_t, out, c_size_t, POINTER(c_size_t)],
         "fault_text": [fault, out, c_size_t, POINTER(c_size_t)],

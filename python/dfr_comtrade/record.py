@@ -5,7 +5,7 @@ import datetime
 import importlib
 from typing import Any, Dict, Iterator, List, NamedTuple, Sequence, TypeVar, Union, overload
 
-from . import _library as c
+from . import _library as c, measures
 from .errors import need
 
 
@@ -75,6 +75,7 @@ class _Kept:
         need(c.library.comtrade_head(at, ctypes.byref(self.head)))
         self.rows: int = self.head.rows
         self._columns: Dict[str, Dict[int, Any]] = {}
+        self._of_rows: Dict[str, Any] = {}
 
     def __del__(self) -> None:
         c.library.comtrade_close(self.at)
@@ -95,6 +96,14 @@ class _Kept:
             asked = [channel] if is_alone else [k for k in range(channels) if k not in columns]
             columns.update(zip(asked, self._read(name, code, asked)))
         return columns[channel]
+
+    def of_rows(self, name: str, code: str) -> Any:
+        """The numbers of the rows themselves."""
+        if name not in self._of_rows:
+            (table,) = _tables(code, 1, self.rows)
+            need(getattr(c.library, "comtrade_" + name)(self.at, 0, self.rows, _place(table)))
+            self._of_rows[name] = table
+        return self._of_rows[name]
 
     def _read(self, name: str, code: str, channels: List[int]) -> List[Any]:
         call, size = getattr(c.library, "comtrade_" + name), ctypes.sizeof(_TYPES[code])
@@ -174,6 +183,24 @@ class AnalogChannel(_Channel):
     def _items(self) -> Any:
         return self.values
 
+    def measure(self, at: measures.Moment, cycles: int = 1) -> measures.Measure:
+        """What `comtrade measure --at` prints: over the last whole cycles that end at a moment, seconds since the first row or an instant.
+        Raises ValueError."""
+        return measures.measured(self._record, self._number, measures.row_at(self._record, at), cycles)
+
+    def rms(self, at: measures.Moment, cycles: int = 1) -> float:
+        """The rms value over the last whole cycles that end at a moment. Raises ValueError."""
+        return self.measure(at, cycles).rms
+
+    def rms_over(self, first: int, count: int) -> float:
+        """The rms value over `count` rows from row `first` on: the root of the mean square of their values. Raises ValueError."""
+        return measures.rms_over(self._record, self._number, first, count)
+
+    def phasor(self, at: measures.Moment, cycles: int = 1, reference: measures.Reference = None) -> complex:
+        """The fundamental over the last whole cycles that end at a moment: its magnitude is an rms value, its angle that to the channel
+        `reference` (an index or id; by default the first channel that has an angle). Raises ValueError."""
+        return measures.phasor(self._record, self._number, at, cycles, reference)
+
 
 class StatusChannel(_Channel):
     """A status channel. `normal` is its bit in normal operation."""
@@ -242,7 +269,7 @@ class Record:
         self.analog = Channels([AnalogChannel(kept, k) for k in range(head.analog)])
         self.status = Channels([StatusChannel(kept, k) for k in range(head.status)])
         self.rates = [kept.rate(k) for k in range(head.rates)]
-        self._read: Dict[str, Any] = {}
+        self._seconds: Any = None
 
     def __len__(self) -> int:
         return self._record.rows
@@ -251,38 +278,31 @@ class Record:
         kind = "BINARY" if self.binary else "ASCII"
         return f"<Record {self.station!r}: {len(self.analog)} analogue, {len(self.status)} status channels, {len(self)} rows, {kind}>"
 
-    def _of_rows(self, name: str, code: str) -> Any:
-        if name not in self._read:
-            (table,) = _tables(code, 1, len(self))
-            need(getattr(c.library, "comtrade_" + name)(self._record.at, 0, len(self), _place(table)))
-            self._read[name] = table
-        return self._read[name]
-
     @property
     def stamps(self) -> Any:
         """The time stamp of each row as the data file has it, as uint64; NO_STAMP if it is missing."""
-        return self._of_rows("stamps", "Q")
+        return self._record.of_rows("stamps", "Q")
 
     @property
     def times_ns(self) -> Any:
         """The time of each row in nanoseconds since the first row, as int64; NO_TIME if a row has neither a rate nor a time stamp."""
-        return self._of_rows("times", "q")
+        return self._record.of_rows("times", "q")
 
     @property
     def times(self) -> Any:
         """The time of each row in seconds since the first row, as float64; a NaN if a row has neither a rate nor a time stamp."""
-        if "seconds" not in self._read:
+        if self._seconds is None:
             times = self.times_ns
             if numpy is not None:
-                self._read["seconds"] = numpy.where(times == c.NO_TIME, numpy.nan, times / 1e9)
+                self._seconds = numpy.where(times == c.NO_TIME, numpy.nan, times / 1e9)
             else:
                 seconds = array.array("d", map((1e9).__rtruediv__, times))
                 if c.NO_TIME in times:
                     for k, time in enumerate(times):
                         if time == c.NO_TIME:
                             seconds[k] = float("nan")
-                self._read["seconds"] = seconds
-        return self._read["seconds"]
+                self._seconds = seconds
+        return self._seconds
 
     @property
     def first(self) -> datetime.datetime:
@@ -300,6 +320,10 @@ class Record:
         times = self.times
         changes = [(row, k) for k, channel in enumerate(self.status) for row in _changes_of(channel.bits)]
         return [Event(row, float(times[row]), self.status[k], int(self.status[k].bits[row])) for row, k in sorted(changes)]
+
+    def phasors(self, at: measures.Moment, cycles: int = 1, reference: measures.Reference = None) -> List[complex]:
+        """The fundamental of each analogue channel; see `AnalogChannel.phasor`. A channel that misses a sample there has a NaN."""
+        return measures.phasors(self._record, at, cycles, reference)
 
     def to_pandas(self) -> Any:
         """A pandas DataFrame of all values and bits: a column for each channel, indexed by seconds since the first row. Channels with the same

@@ -9,7 +9,7 @@ import os
 from pathlib import Path
 from typing import Any, List, Optional, Union
 
-from . import _files
+from . import _files, _packed
 from .opening import imported_of, warn_of
 from .record import AnalogChannel, Record, StatusChannel
 
@@ -65,7 +65,7 @@ class Cfg:
 
 def _beside(path: str, ending: str) -> Optional[str]:
     """The text of the file with this ending next to a record's, None if there is none."""
-    stem, _ = _files.split(path, (".cfg", ".dat", ".cff"))
+    stem, _ = _files.split(path, _files.ENDINGS)
     for name in (stem + ending, stem + ending.upper()):
         if os.path.isfile(name):
             return Path(name).read_bytes().decode("utf-8", "replace")
@@ -103,15 +103,15 @@ class Comtrade:
         """Reads the files of a record, or a single file (.cff). `encoding` is that of its texts; `hdr` and `inf` name the other two files, which
         are otherwise those next to it. Raises as `read` does."""
         found, data = (os.fspath(cfg_file), dat_file) if dat_file is not None else _files.pair_of(cfg_file)
-        content = Path(found).read_bytes()
+        content, rows = _packed.contents(found, data)
         self.file_path = str(found)
-        self._take(content, None if data is None else Path(data).read_bytes(), kwargs.get("encoding"))
+        self._take(content, rows, kwargs.get("encoding"))
         for name in ("hdr", "inf"):
             given = kwargs.get(name) or kwargs.get(f"{name}_file")
             if given:
                 text: Optional[str] = Path(given).read_bytes().decode("utf-8", "replace")
             else:
-                text = _section(content, name) if data is None else _beside(str(found), "." + name)
+                text = _section(content, name) if rows is None else _beside(str(found), "." + name)
             setattr(self, name, text)
 
     def read(self, cfg: Union[str, bytes], dat: Union[str, bytes], hdr: Optional[str] = None, inf: Optional[str] = None, **kwargs: Any) -> None:

@@ -12,58 +12,69 @@ _comtrade() {
         places=(commands)
         ;;
     show)
-        flags='--from --to --channels --changed --primary --secondary --strict --encoding --json -h
-               --help'
-        valued='--from --to --channels --encoding'
+        flags='--from --to --channels --changed --primary --secondary --strict --encoding --json -o
+               --output -h --help'
+        valued='--from --to --channels --encoding --output'
         places=(records records)
         ;;
     check)
-        flags='--json -h --help'
+        flags='--json -o --output -h --help'
+        valued='--output'
         places=(records records)
         ;;
     csv)
         flags='--from --to --channels --changed --primary --secondary --strict --encoding
-               --separator --decimal -h --help'
-        valued='--from --to --channels --encoding --separator --decimal'
+               --separator --decimal -o --output -h --help'
+        valued='--from --to --channels --encoding --separator --decimal --output'
         places=(records records)
         ;;
     plot)
         flags='--from --to --channels --changed --primary --secondary --strict --encoding --whole
-               --all --width --height -h --help'
-        valued='--from --to --channels --encoding --width --height'
+               --all --width --height --print -o --output -h --help'
+        valued='--from --to --channels --encoding --width --height --output'
         places=(records records)
         ;;
     page)
-        flags='--from --to --channels --changed --primary --secondary --strict --encoding -h --help'
-        valued='--from --to --channels --encoding'
+        flags='--from --to --channels --changed --primary --secondary --strict --encoding -o
+               --output -h --help'
+        valued='--from --to --channels --encoding --output'
         places=(records records)
         ;;
     list)
-        flags='--json --encoding -h --help'
-        valued='--encoding'
+        flags='-r --recursive --from --to --station --json --encoding -o --output --min-current -h
+               --help'
+        valued='--from --to --station --encoding --output --min-current'
         places=(records)
         more=records
         ;;
     events)
-        flags='--json --encoding -h --help'
-        valued='--encoding'
+        flags='-r --recursive --from --to --station --json --encoding -o --output --type --csv -h
+               --help'
+        valued='--from --to --station --encoding --output --type'
+        places=(records)
+        more=records
+        ;;
+    fault)
+        flags='-r --recursive --long --json --encoding -o --output -h --help'
+        valued='--encoding --output'
         places=(records)
         more=records
         ;;
     compare)
         flags='--by --from --to --channels --changed --primary --secondary --strict --encoding
-               --whole --all --width --height -h --help'
-        valued='--by --from --to --channels --encoding --width --height'
+               --whole --all --width --height --print -o --output -h --help'
+        valued='--by --from --to --channels --encoding --width --height --output'
         places=(records records)
         ;;
     measure)
         flags='--from --to --channels --changed --primary --secondary --strict --encoding --at
-               --reference --json -h --help'
-        valued='--from --to --channels --encoding --at --reference'
+               --reference --frequency --phases --json -o --output -h --help'
+        valued='--from --to --channels --encoding --at --reference --frequency --phases --output'
         places=(records records)
         ;;
     detect)
-        flags='--json -h --help'
+        flags='--json -o --output -h --help'
+        valued='--output'
         places=(files records records)
         ;;
     convert)
@@ -101,6 +112,8 @@ _comtrade() {
     if [ -n "$option" ]; then
         case $option in
         --encoding) word='utf-8 latin1 windows-1251 windows-1252 cp437 cp850 cp866 gbk shift_jis' ;;
+        --output) return ;;
+        --type) word='trigger change gap' ;;
         --by) word='instant trigger' ;;
         --kind) word='ascii binary' ;;
         --dates) word='mdy dmy' ;;
@@ -113,17 +126,17 @@ _comtrade() {
             line-ends-cr line-ends-crcr bom utf-16 cfg-1a texts-not-ascii text-long phase-long
             unit-empty text-comma text-nul ids-alike rate-line-absent rate-zero rows-fewer rows-more
             rows-lost row-cut sample-numbers stamps-restart stamps-against-rate stamps-decimal
-            stamps-shifted stamps-wrapped stamps-ns stamps-absent times-unknown values-decimal
-            values-wide values-unsigned values-rounded missing-marks kind-binary32 kind-float32
-            kind-other kind-absent dat-1a dat-after-end row-size status-spare-bits big-endian cff
-            cff-form cff-count cff-kind inf-dropped hdr-dropped' ;;
+            stamps-shifted stamps-wrapped stamps-ns stamps-long stamps-absent times-unknown
+            values-decimal values-wide values-unsigned values-rounded missing-marks kind-binary32
+            kind-float32 kind-other kind-absent dat-1a dat-after-end row-size status-spare-bits
+            big-endian cff cff-form cff-count cff-kind inf-dropped hdr-dropped' ;;
         *) compopt +o default 2> /dev/null; return ;;
         esac
     elif [[ -z $only && $cur == -* ]]; then
         word=$flags
     else
         case ${places[place]:-$more} in
-        commands) word='show check csv plot page list events compare measure detect convert import extract help' ;;
+        commands) word='show check csv plot page list events fault compare measure detect convert import extract help' ;;
         folders)
             compopt -o filenames 2> /dev/null
             mapfile -t COMPREPLY < <(compgen -d -- "$cur")

@@ -5,9 +5,10 @@ _dfrd() {
     local i word
     COMPREPLY=()
     [ "$cur" != = ] || cur=''
-    flags='--kind --raw --frames --clip --start --time --gap --wait --no-wait --orders --health
-           --keep --keep-bytes --most --check --quiet --journal -h --help -V --version'
-    valued='--kind --frames --start --time --gap --orders --health --keep --keep-bytes --most'
+    flags='--kind --raw --frames --clip --start --time --gap --pcap --look --wait --no-wait --orders
+           --health --keep --keep-bytes --most --hdr --events --chatter --check --quiet --journal -h
+           --help -V --version'
+    valued='--kind --frames --start --time --gap --orders --health --keep --keep-bytes --most --events --chatter'
     places=(files folders)
     for ((i = first; i < COMP_CWORD; i++)); do
         word=${COMP_WORDS[i]} option=''
@@ -30,6 +31,7 @@ _dfrd() {
         --time) word='clock rate' ;;
         --orders) return ;;
         --health) return ;;
+        --events) return ;;
         *) compopt +o default 2> /dev/null; return ;;
         esac
     elif [[ -z $only && $cur == -* ]]; then

@@ -107,7 +107,8 @@ def tried(word, kind, samples, span, number):
     error = "exact" if off == 0 else "a part of 10^8 of the span" if off <= part else "off by %g" % off
     is_told = "" if off <= told_error(said) else ", but not told"
     shown = json.loads(run("show", "--json", name)[1])["analog"][0]
-    print("%s, %s: %s: %s%s; %s" % (word, kind, notes_in(said), error, is_told, shown["range"]))
+    bounds = "%d to %d" % (shown["min"], shown["max"])
+    print("%s, %s: %s: %s%s; %s" % (word, kind, notes_in(said), error, is_told, bounds))
     status, out, said = run("import", name, name + "-new")
     print("  import: %s" % (notes_in(out) if status == 0 else said.strip()))
 

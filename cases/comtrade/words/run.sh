@@ -39,3 +39,6 @@ echo "status $?"
 echo "status $?"
 "$comtrade" show files/first.cfg files/first.dat >&-
 echo "status $?"
+said fault --help
+said fault --long
+said fault --encoding latin99 files/first

@@ -3,11 +3,15 @@
 use crate::around::rms_of;
 use crate::content::{Reading, file_spelled};
 use crate::load::{Inputs, read_record};
+use crate::output::named_file;
 use crate::part::{Taken, taken_of};
 use crate::survey::say_repairs;
 use crate::view::{NO_SIZE, options_of};
+use crate::write::write_new;
+use crate::zones::to_zone_of;
 use crate::{complain, note_size, say};
 use bumpalo::Bump;
+use comtrade_diagnostics::Zone;
 use comtrade_format::File;
 use comtrade_io::{Compared, Names, Part, ToolFault};
 use comtrade_plot::{By, CompareOptions, PlotOptions, Timed, compare_over};
@@ -37,18 +41,20 @@ fn part_beside<'a>(part: Part<'a>) -> Part<'a> {
     }
 }
 
-/// The file of a record; the bytes of its files are released. None if it cannot be read, which is
-/// printed.
+/// The file of a record, with the instants of the first record's time code; the bytes of its files
+/// are released. None if it cannot be read, which is printed.
 fn file_in<R: Eprint + AllocGlobal, A: Allocator + Copy>(
     rt: &R,
     lists: A,
+    zone: &mut Option<Zone>,
     name: &str,
     part: Part<'_>,
     inputs: Inputs,
 ) -> Result<Option<File<A>>, ToolFault> {
     let mut said = Vec::new(lists);
     match file_spelled(lists, &inputs, Reading::to_show(part, false), &mut said)? {
-        Some(loaded) => {
+        Some(mut loaded) => {
+            to_zone_of(zone, &mut loaded, &mut said)?;
             say_repairs(rt, name, &said)?;
             Ok(Some(loaded.file))
         }
@@ -64,6 +70,7 @@ fn record_of<R: Files + Input + Eprint + AllocGlobal + Clone + Drop, A: Allocato
     rt: &R,
     lists: A,
     is_watched: bool,
+    zone: &mut Option<Zone>,
     name: &str,
     part: Part<'_>,
 ) -> Result<Option<Taken<A>>, ToolFault> {
@@ -75,7 +82,7 @@ fn record_of<R: Files + Input + Eprint + AllocGlobal + Clone + Drop, A: Allocato
         return Ok(None);
     };
     note_size(rt, is_watched, &inputs);
-    let Some(file) = file_in(rt, lists, name, part, inputs)? else {
+    let Some(file) = file_in(rt, lists, zone, name, part, inputs)? else {
         return Ok(None);
     };
     let mut said = Vec::new(lists);
@@ -117,17 +124,36 @@ fn put_compared<A: Allocator + Copy, W: Write>(
 }
 
 /// Draws two records; false if that is refused, which is printed.
-fn draw<R: Print + Eprint, A: Allocator + Copy>(
+fn draw<R: Eprint, A: Allocator + Copy, W: Write>(
     rt: &R,
     lists: A,
     one: &Taken<A>,
     other: &Taken<A>,
     options: CompareOptions,
+    w: &mut W,
 ) -> Result<bool, ToolFault> {
-    let (mut said, mut out) = (Vec::new(lists), io::writer(rt));
-    let is_drawn = put_compared(lists, one, other, options, &mut out, &mut said)?;
+    let mut said = Vec::new(lists);
+    let is_drawn = put_compared(lists, one, other, options, w, &mut said)?;
     say(rt, &said);
     Ok(is_drawn)
+}
+
+/// Draws two records on standard output, or in the file that is named; false if that is refused or
+/// fails, which is printed.
+fn draw_out<R: Files + Print + Eprint + AllocGlobal, A: Allocator + Copy>(
+    rt: &R,
+    lists: A,
+    output: Option<&str>,
+    one: &Taken<A>,
+    other: &Taken<A>,
+    options: CompareOptions,
+) -> Result<bool, ToolFault> {
+    let Some(name) = named_file(output) else {
+        return draw(rt, lists, one, other, options, &mut io::writer(rt));
+    };
+    let mut out = Vec::new(rt.alloc());
+    let is_drawn = draw(rt, lists, one, other, options, &mut out)?;
+    Ok(is_drawn && write_new(rt, name, &out))
 }
 
 /// Reads the second record and draws both; false if that is refused, which is printed.
@@ -135,12 +161,14 @@ fn draw_beside<R: Files + Input + Print + Eprint + AllocGlobal + Clone + Drop, A
     rt: &R,
     lists: A,
     is_watched: bool,
+    zone: &mut Option<Zone>,
     asked: Compared<'_>,
     one: &Taken<A>,
     options: CompareOptions,
 ) -> Result<bool, ToolFault> {
-    match record_of(rt, lists, is_watched, asked.other, part_beside(asked.part))? {
-        Some(other) => draw(rt, lists, one, &other, options),
+    let part = part_beside(asked.part);
+    match record_of(rt, lists, is_watched, zone, asked.other, part)? {
+        Some(other) => draw_out(rt, lists, asked.output, one, &other, options),
         None => Ok(false),
     }
 }
@@ -153,8 +181,9 @@ fn draw_both<R: Files + Input + Print + Eprint + AllocGlobal + Clone + Drop, A: 
     asked: Compared<'_>,
     options: CompareOptions,
 ) -> Result<bool, ToolFault> {
-    match record_of(rt, lists, is_watched, asked.one, asked.part)? {
-        Some(one) => draw_beside(rt, lists, is_watched, asked, &one, options),
+    let mut zone = None;
+    match record_of(rt, lists, is_watched, &mut zone, asked.one, asked.part)? {
+        Some(one) => draw_beside(rt, lists, is_watched, &mut zone, asked, &one, options),
         None => Ok(false),
     }
 }

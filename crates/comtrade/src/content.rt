@@ -3,7 +3,7 @@
 
 use crate::load::{Inputs, REFUSED, pair_of, put_import_fault, put_notes};
 use comtrade_diagnostics::{
-    Choices, ImportFault, Intended, Pair, Refusal, Repaired, Samples, Texts, intended_of,
+    Choices, ImportFault, Intended, Pair, Refusal, Repaired, Samples, Texts, Zone, intended_of,
     put_fault, put_remarks, repaired_pair, repaired_single,
 };
 use comtrade_format::File;
@@ -89,6 +89,8 @@ pub(crate) enum Origin {
 pub(crate) struct Loaded<A: Allocator> {
     pub(crate) file: File<A>,
     pub(crate) origin: Origin,
+    /// The time code of its instants, if it has one.
+    pub(crate) zone: Option<Zone>,
 }
 
 /// The repaired file; `said` gets each repair, one line each.
@@ -97,9 +99,9 @@ fn told<A: Allocator + Copy>(
     origin: Origin,
     said: &mut Vec<u8, A>,
 ) -> Result<Loaded<A>, ToolFault> {
-    let Repaired { file, notes } = repaired;
+    let Repaired { file, notes, zone } = repaired;
     put_notes(said, &notes)?;
-    Ok(Loaded { file, origin })
+    Ok(Loaded { file, origin, zone })
 }
 
 /// The file of the pair in a single file, as `import` reads it. `said` gets each repair, one line
@@ -172,7 +174,11 @@ fn intended_in<A: Allocator + Copy>(
             (file, Origin::Literal)
         }
     };
-    Ok(Loaded { file, origin })
+    Ok(Loaded {
+        file,
+        origin,
+        zone: None,
+    })
 }
 
 /// The file of a pair: exact if it means that, else as `import` reads it, with the repairs in
@@ -188,6 +194,7 @@ fn file_in<A: Allocator + Copy>(
             return Ok(Some(Loaded {
                 file,
                 origin: Origin::Literal,
+                zone: None,
             }));
         }
         Ok(file) => {
@@ -226,9 +233,11 @@ fn record_in<A: Allocator + Copy>(
 pub(crate) const NO_ENCODING: &str = "comtrade: --encoding expects utf-8, latin1, windows-1251, \
     windows-1252, cp437, cp850, cp866, gbk or shift_jis\n";
 
-/// The encoding with this name, UTF-8 without one; None for an unknown one.
+/// The encoding with this name, UTF-8 without one; None for an unknown one. A UTF-16 file is known
+/// by its first bytes, and its texts become UTF-8.
 pub(crate) fn encoding_of(name: Option<&str>) -> Option<Encoding> {
     match name {
+        Some(name) if name.eq_ignore_ascii_case("utf-16") => Some(Encoding::Utf8),
         Some(name) => Encoding::named(name),
         None => Some(Encoding::Utf8),
     }

@@ -1,16 +1,18 @@
 //! `comtrade detect`: when the detectors of a station's set-up fire on a record.
 
 use crate::content::{Reading, file_spelled};
+use crate::detect_json::members_of;
 use crate::load::{Inputs, read_record};
+use crate::output::put_out;
 use crate::part::{Taken, taken_of};
-use crate::{complain, note_size, print_bytes, read_named, say};
+use crate::{complain, note_size, read_named, say};
 use bumpalo::Bump;
 use comtrade_format::{File, Head};
 use comtrade_io::{ToolFault, Viewed, put_safe};
 use comtrade_values::{
     Memory, copies_of, has_date, put, put_civil, put_number, put_with, whole_of,
 };
-use comtrade_views::put_text;
+use comtrade_views::put_json;
 use dfr_channels::Setup;
 use dfr_setup::{DetectorRefusal, Plan, Planned, detectors_over};
 use std::alloc::{AllocError, Allocator, Global};
@@ -18,17 +20,17 @@ use std::rt::Files;
 
 /// A row by its place in the list and by its number, from 1.
 #[derive(Clone, Copy)]
-struct Place {
-    row: usize,
-    number: u64,
+pub(crate) struct Place {
+    pub(crate) row: usize,
+    pub(crate) number: u64,
 }
 
 /// A detector's bit becomes 1 at a row, from 0, and stays 1 for so many.
 #[derive(Clone, Copy)]
-struct Firing {
-    detector: usize,
-    first: Place,
-    rows: usize,
+pub(crate) struct Firing {
+    pub(crate) detector: usize,
+    pub(crate) first: Place,
+    pub(crate) rows: usize,
 }
 
 /// The bit of a detector was 1 from a row to the one before `end`.
@@ -138,7 +140,7 @@ fn watched_over<A: Allocator + Copy>(
 }
 
 /// Puts the instant of a row, or `-` where it isn't known or has no date.
-fn put_row_instant<A: Allocator>(
+pub(crate) fn put_row_instant<A: Allocator>(
     out: &mut Vec<u8>,
     taken: &Taken<A>,
     row: usize,
@@ -183,41 +185,6 @@ fn put_lines<A: Allocator>(
     Ok(())
 }
 
-/// Puts a detector as JSON.
-fn put_object<A: Allocator>(
-    alloc: Global,
-    out: &mut Vec<u8>,
-    taken: &Taken<A>,
-    name: &[u8],
-    firings: &[Firing],
-    detector: usize,
-) -> Result<(), AllocError> {
-    put(out, "{\"name\":")?;
-    put_text(alloc, out, name)?;
-    put(out, ",\"fires\":[")?;
-    let mut is_first = true;
-    for firing in firings {
-        if firing.detector != detector {
-            continue;
-        }
-        put(
-            out,
-            if is_first {
-                "{\"instant\":\""
-            } else {
-                ",{\"instant\":\""
-            },
-        )?;
-        is_first = false;
-        put_row_instant(out, taken, firing.first.row, b' ')?;
-        put_with(out, "\",\"row\":", firing.first.number)?;
-        put_with(out, ",\"scan\":", firing.first.row as u64)?;
-        put_with(out, ",\"scans\":", firing.rows as u64)?;
-        put(out, "}")?;
-    }
-    put(out, "]}")
-}
-
 /// Puts what all detectors did.
 fn put_all<A: Allocator>(
     alloc: Global,
@@ -228,19 +195,10 @@ fn put_all<A: Allocator>(
     json: bool,
 ) -> Result<(), AllocError> {
     if json {
-        put(out, "{\"detectors\":[")?;
+        return put_json(alloc, out, &members_of(alloc, taken, plans, firings)?);
     }
     for (place, plan) in plans.iter().enumerate() {
-        let name = plan.name.items();
-        if !json {
-            put_lines(out, taken, name, firings, place)?;
-            continue;
-        }
-        put(out, if place == 0 { "" } else { "," })?;
-        put_object(alloc, out, taken, name, firings, place)?;
-    }
-    if json {
-        put(out, "]}\n")?;
+        put_lines(out, taken, plan.name.items(), firings, place)?;
     }
     Ok(())
 }
@@ -320,7 +278,7 @@ fn record_of<R: Eprint + AllocGlobal, A: Allocator + Copy>(
 }
 
 /// Runs the detectors over the record; false if that is refused, which is printed.
-fn detect<R: Print + Eprint + AllocGlobal>(
+fn detect<R: Files + Print + Eprint + AllocGlobal>(
     rt: &R,
     viewed: Viewed<'_>,
     detectors: (&str, &[u8]),
@@ -334,7 +292,7 @@ fn detect<R: Print + Eprint + AllocGlobal>(
     let places = (&mut out, &mut said);
     let is_done = detect_over(rt.alloc(), &lists, viewed.json, detectors, &taken, places)?;
     say(rt, &said);
-    Ok(is_done && print_bytes(rt, &out) == 0)
+    Ok(is_done && put_out(rt, viewed.output, &out) == 0)
 }
 
 /// Runs the detectors of a file over a record, and prints when each fires.

@@ -35,6 +35,19 @@ pub(crate) struct Pairs {
     pub(crate) names: Vec<String>,
     /// The names, as printable characters, that are not UTF-8, so that the files cannot be opened.
     pub(crate) odd: Vec<Vec<u8>>,
+    /// Whether all folders were read; those that weren't are printed.
+    pub(crate) is_whole: bool,
+}
+
+/// How many folders may lie one in another.
+const DEEPEST: usize = 20;
+
+/// What is in a folder: its records, names that are not UTF-8, and the folders in it.
+#[derive(Drop)]
+struct Entries {
+    names: Vec<String>,
+    odd: Vec<Vec<u8>>,
+    folders: Vec<String>,
 }
 
 /// A name in a folder that is not UTF-8, as printable characters.
@@ -54,30 +67,111 @@ fn entries_of<R: Files + AllocGlobal>(rt: &R, folder: &str) -> Result<Vec<u8>, T
     }
 }
 
-/// Adds the records of a folder, sorted by name.
+/// Adds a name of a folder to what is in it: a record, or a folder where these are looked for.
+fn add_entry<R: Files + AllocGlobal>(
+    rt: &R,
+    folder: &str,
+    name: &[u8],
+    recursive: bool,
+    entries: &mut Entries,
+) -> Result<(), ToolFault> {
+    if matches!(name, b"" | b"." | b"..") {
+        return Ok(());
+    }
+    let Ok(text) = str::from_utf8(name) else {
+        if is_record(name) {
+            entries.odd.push(odd_name(rt, folder, name)?)?;
+        }
+        return Ok(());
+    };
+    let path = path_in(rt, folder, text)?;
+    if recursive && is_folder(rt, path.as_str()) {
+        entries.folders.push(path)?;
+    } else if is_record(name) {
+        entries.names.push(path)?;
+    }
+    Ok(())
+}
+
+/// What is in a folder, each sorted by name; the folders in it only where these are looked for.
+fn found_in<R: Files + AllocGlobal>(
+    rt: &R,
+    folder: &str,
+    recursive: bool,
+) -> Result<Entries, ToolFault> {
+    let mut entries = Entries {
+        names: Vec::new(rt.alloc()),
+        odd: Vec::new(rt.alloc()),
+        folders: Vec::new(rt.alloc()),
+    };
+    let names = entries_of(rt, folder)?;
+    for name in names.split(|b| *b == 0) {
+        add_entry(rt, folder, name, recursive, &mut entries)?;
+    }
+    entries.names.sort()?;
+    entries.odd.sort()?;
+    entries.folders.sort()?;
+    Ok(entries)
+}
+
+/// Adds the records of a folder, sorted by name, and returns the folders in it.
 fn add_folder<R: Files + AllocGlobal>(
     rt: &R,
     folder: &str,
+    recursive: bool,
     pairs: &mut Pairs,
-) -> Result<(), ToolFault> {
-    let entries = entries_of(rt, folder)?;
-    let (mut names, mut odd) = (Vec::new(rt.alloc()), Vec::new(rt.alloc()));
-    for name in entries.split(|b| *b == 0) {
-        if !is_record(name) {
-            continue;
-        }
-        match str::from_utf8(name) {
-            Ok(name) => names.push(path_in(rt, folder, name)?)?,
-            Err(_) => odd.push(odd_name(rt, folder, name)?)?,
-        }
-    }
-    names.sort()?;
-    odd.sort()?;
-    for name in names {
+) -> Result<Vec<String>, ToolFault> {
+    let entries = found_in(rt, folder, recursive)?;
+    for name in entries.names {
         pairs.names.push(name)?;
     }
-    for name in odd {
+    for name in entries.odd {
         pairs.odd.push(name)?;
+    }
+    Ok(entries.folders)
+}
+
+/// Adds the records of folders, and returns the folders in these. One that cannot be read is
+/// printed.
+fn add_folders<R: Files + Eprint + AllocGlobal>(
+    rt: &R,
+    folders: &[String],
+    pairs: &mut Pairs,
+) -> Result<Vec<String>, ToolFault> {
+    let mut next = Vec::new(rt.alloc());
+    for folder in folders {
+        match add_folder(rt, folder.as_str(), true, pairs) {
+            Ok(within) => {
+                for name in within {
+                    next.push(name)?;
+                }
+            }
+            Err(ToolFault::Memory) => return Err(ToolFault::Memory),
+            Err(fault) => {
+                complain(rt, folder.as_str(), fault);
+                pairs.is_whole = false;
+            }
+        }
+    }
+    Ok(next)
+}
+
+/// Adds the records of folders that lie in a named one, folder by folder. Those that lie too deep are
+/// printed.
+fn add_below<R: Files + Eprint + AllocGlobal>(
+    rt: &R,
+    folders: Vec<String>,
+    pairs: &mut Pairs,
+) -> Result<(), ToolFault> {
+    let mut folders = folders;
+    for _ in 0..DEEPEST {
+        folders = add_folders(rt, &folders, pairs)?;
+    }
+    for folder in &folders {
+        let after = ": not read, because over 20 folders lie one in another\n";
+        let said = message_on(rt.alloc(), "comtrade: ", folder.as_bytes(), after);
+        refuse(rt, 1, said);
+        pairs.is_whole = false;
     }
     Ok(())
 }
@@ -91,23 +185,29 @@ fn path_in<R: AllocGlobal>(rt: &R, folder: &str, file: &str) -> Result<String, A
     Ok(path)
 }
 
-/// The records that the names mean: for a folder, those in it.
+/// The records that the names mean: for a folder, those in it, and with `recursive` also those of
+/// the folders below it.
 pub(crate) fn pairs_of<R: Files + Eprint + AllocGlobal>(
     rt: &R,
     names: &[&str],
+    recursive: bool,
 ) -> Result<Pairs, ToolFault> {
     let mut pairs = Pairs {
         names: Vec::new(rt.alloc()),
         odd: Vec::new(rt.alloc()),
+        is_whole: true,
     };
     for name in names {
         if !is_folder(rt, name) {
             pairs.names.push(String::from_str(rt.alloc(), name)?)?;
             continue;
         }
-        if let Err(fault) = add_folder(rt, name, &mut pairs) {
-            complain(rt, name, fault);
-            return Err(fault);
+        match add_folder(rt, name, recursive, &mut pairs) {
+            Ok(within) => add_below(rt, within, &mut pairs)?,
+            Err(fault) => {
+                complain(rt, name, fault);
+                return Err(fault);
+            }
         }
     }
     Ok(pairs)

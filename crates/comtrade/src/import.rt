@@ -1,12 +1,11 @@
 //! `comtrade import`: files as relays write them become a pair of 1999.
 
-use crate::content::NO_ENCODING;
+use crate::content::{NO_ENCODING, encoding_of};
 use crate::load::{import_refusal, put_notes, read_inputs};
 use crate::write::{is_name, write_named};
 use crate::{out_of_memory, print_bytes, refuse, say};
 use comtrade_diagnostics::{Choices, Imported, Key, Order, Refusal, import, import_single};
 use comtrade_io::{Importing, put_quoted};
-use comtrade_letters::Encoding;
 use comtrade_values::put;
 use std::alloc::{AllocError, Global};
 use std::rt::Files;
@@ -150,7 +149,7 @@ fn import_spelled<R: Files + Input + Print + Eprint + AllocGlobal + Clone + Drop
 ) -> u8 {
     let encoding = match made.encoding {
         None => None,
-        Some(name) => match Encoding::named(name) {
+        Some(name) => match encoding_of(Some(name)) {
             Some(encoding) => Some(encoding),
             None => {
                 say(rt, NO_ENCODING.as_bytes());

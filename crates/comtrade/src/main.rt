@@ -1,6 +1,5 @@
-//! The program `comtrade`: it parses its arguments, reads the files that they name, and hands the
-//! work to the libraries. Each command prints its errors on standard error and returns the exit
-//! status.
+//! The program `comtrade`: it parses its arguments, reads the files they name, and hands the work
+//! to libraries. Each command prints errors on standard error and returns the exit status.
 #![tactic(auto)]
 
 mod around;
@@ -8,28 +7,35 @@ mod compare;
 mod container;
 mod content;
 mod detect;
+mod detect_json;
 mod ending;
+mod event_file;
 mod extract;
+mod fault;
 mod find;
 mod folder;
 mod import;
 mod load;
 mod measure;
+mod output;
 mod part;
 mod survey;
 mod view;
 mod words;
 mod write;
+mod zones;
 
 use crate::compare::run_compare;
 use crate::detect::run_detect;
 use crate::extract::run_extract;
+use crate::fault::run_fault;
 use crate::import::run_import;
 use crate::load::{Inputs, pair_of, read_inputs, read_record};
+use crate::output::{named_file, put_out};
 use crate::survey::run_survey;
 use crate::view::{Room, check, shown_file, verdict_json, view_file};
 use crate::words::{invalid_argument, safe_lines, words_of};
-use crate::write::run_convert;
+use crate::write::{run_convert, write_new};
 use bumpalo::Bump;
 use comtrade_diagnostics::{Pair, put_single};
 use comtrade_io::{
@@ -39,7 +45,7 @@ use comtrade_read::read_cfg;
 use comtrade_values::put;
 use std::alloc::{AllocError, Allocator, Global};
 use std::fs::File;
-use std::io::IsTerminal;
+use std::io::{IsTerminal, Write};
 use std::process::ExitCode;
 use std::rt::Files;
 use std::{fs, io};
@@ -142,12 +148,13 @@ pub(crate) fn print_bytes<R: Print + Eprint + AllocGlobal>(rt: &R, bytes: &[u8])
 
 /// Prints what is asked of a part of a record; false if the record has an error, or no such part,
 /// which is put to `said`. What was repaired in a single file is printed first.
-fn print_file<R: Print + Eprint + AllocGlobal, A: Allocator + Copy>(
+fn put_file<R: Eprint + AllocGlobal, A: Allocator + Copy, W: Write>(
     rt: &R,
     room: Room<A>,
     view: View,
     viewed: Viewed<'_>,
     inputs: &Inputs,
+    w: &mut W,
     said: &mut Vec<u8, A>,
 ) -> Result<bool, ToolFault> {
     let Some((asked, file)) = shown_file(room, view, viewed, inputs, said)? else {
@@ -157,15 +164,16 @@ fn print_file<R: Print + Eprint + AllocGlobal, A: Allocator + Copy>(
         say(rt, said);
         said.clear();
     }
-    view_file(&asked, file, &mut io::writer(rt), said)
+    view_file(&asked, file, w, said)
 }
 
-/// Prints what is asked of a record.
-fn print_view<R: Print + Eprint + AllocGlobal>(
+/// Prints what is asked of a record, and why it is refused. The exit status.
+fn put_view<R: Eprint + AllocGlobal, W: Write>(
     rt: &R,
     view: View,
     viewed: Viewed<'_>,
     inputs: &Inputs,
+    w: &mut W,
 ) -> u8 {
     let lists = Bump::new(rt.alloc());
     let mut said = Vec::new(&lists);
@@ -174,9 +182,9 @@ fn print_view<R: Print + Eprint + AllocGlobal>(
         lists: &lists,
     };
     let shown = if view == View::Check {
-        check(room, viewed, pair_of(inputs), &mut io::writer(rt))
+        check(room, viewed, pair_of(inputs), w)
     } else {
-        print_file(rt, room, view, viewed, inputs, &mut said)
+        put_file(rt, room, view, viewed, inputs, w, &mut said)
     };
     say(rt, &said);
     match shown {
@@ -187,6 +195,26 @@ fn print_view<R: Print + Eprint + AllocGlobal>(
         }
         Err(fault) => complain(rt, "standard output", fault),
     }
+}
+
+/// Prints what is asked of a record, or writes it to the file that is named. The verdict on a record
+/// with an error is written, too.
+fn print_view<R: Files + Print + Eprint + AllocGlobal>(
+    rt: &R,
+    view: View,
+    viewed: Viewed<'_>,
+    inputs: &Inputs,
+) -> u8 {
+    let Some(name) = named_file(viewed.output) else {
+        return put_view(rt, view, viewed, inputs, &mut io::writer(rt));
+    };
+    let mut out = Vec::new(rt.alloc());
+    let status = put_view(rt, view, viewed, inputs, &mut out);
+    let is_written = status == 0 || (view == View::Check && !out.is_empty());
+    if is_written && !write_new(rt, name, &out) {
+        return 1;
+    }
+    status
 }
 
 /// Prints that the files are swapped, if the second one is the configuration file.
@@ -219,10 +247,14 @@ fn single_verdict(alloc: Global, inputs: &Inputs, json: bool) -> Result<Vec<u8>,
 }
 
 /// Prints that a single file is no pair, and whether `import` reads it.
-fn check_single<R: Print + Eprint + AllocGlobal>(rt: &R, inputs: &Inputs, json: bool) -> u8 {
-    match single_verdict(rt.alloc(), inputs, json) {
+fn check_single<R: Files + Print + Eprint + AllocGlobal>(
+    rt: &R,
+    inputs: &Inputs,
+    viewed: Viewed<'_>,
+) -> u8 {
+    match single_verdict(rt.alloc(), inputs, viewed.json) {
         Ok(out) => {
-            print_bytes(rt, &out);
+            put_out(rt, viewed.output, &out);
             1
         }
         Err(_) => out_of_memory(rt),
@@ -243,7 +275,7 @@ fn run_view<R: Files + Input + Print + Eprint + AllocGlobal + Clone + Drop>(
     };
     match inputs {
         Some(inputs) if inputs.is_single() && view == View::Check => {
-            check_single(rt, &inputs, viewed.json)
+            check_single(rt, &inputs, viewed)
         }
         Some(inputs) => {
             note_size(rt, is_watched, &inputs);
@@ -264,10 +296,9 @@ fn run<R: Files + Input + Print + Eprint + AllocGlobal + Clone + Drop>(
         Asked::Convert(made) => run_convert(rt, is_watched, made),
         Asked::Import(made) => run_import(rt, &made),
         Asked::Compare(made) => run_compare(rt, is_watched, made),
+        Asked::Fault(made) => run_fault(rt, &made),
         Asked::Extract(folder) => run_extract(rt, folder),
-        Asked::Survey(survey, json, encoding, names) => {
-            run_survey(rt, survey, json, encoding, &names)
-        }
+        Asked::Survey(kind, made) => run_survey(rt, kind, &made),
     }
 }
 

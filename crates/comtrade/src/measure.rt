@@ -4,23 +4,33 @@ use crate::part::Taken;
 use crate::view::Room;
 use comtrade_format::File;
 use comtrade_io::{Cursor, Part, ToolFault, Viewed, write_out};
-use comtrade_values::put;
+use comtrade_values::{Decimal, put};
 use comtrade_views::{
-    MeasureFault, Measuring, Shown, measure_text, put_outside, times_since_trigger,
+    Choice, LineFrequency, MeasureFault, Measuring, Shown, measure_text, put_outside,
+    times_since_trigger,
 };
 use std::alloc::Allocator;
 use std::io::Write;
 
 const TWICE: &str = "comtrade: --at cannot be combined with --from or --to\n";
 
+const NO_FREQUENCY: &str =
+    "comtrade: --frequency expects measured, or a number of Hz above 0, such as 49.8\n";
+
+const NO_MOMENT: &str = "comtrade: --frequency measured needs --at, or --from or --to\n";
+
 /// What is measured of a part: its last whole cycle with `--at`, its whole cycles in a window, else
 /// the fault inceptions of currents.
 fn measuring_of<'a>(part: Part<'a>, cursor: Cursor<'a>) -> Measuring<'a> {
+    let choice = Choice {
+        reference: cursor.reference,
+        phases: cursor.phases,
+    };
     if cursor.at.is_some() {
-        return Measuring::LastCycle(cursor.reference);
+        return Measuring::LastCycle(choice);
     }
     if part.from.is_some() || part.to.is_some() {
-        Measuring::WholeCycles(cursor.reference)
+        Measuring::WholeCycles(choice)
     } else {
         Measuring::Course
     }
@@ -60,15 +70,51 @@ pub(crate) fn is_outside<A: Allocator + Copy>(
     Ok(put_outside(said, file, &times, at)?)
 }
 
+/// The line frequency that a text asks for; None if it is none.
+fn frequency_in(text: Option<&str>) -> Option<LineFrequency> {
+    let Some(text) = text else {
+        return Some(LineFrequency::OfFile);
+    };
+    if text == "measured" {
+        return Some(LineFrequency::Measured);
+    }
+    let hertz = Decimal::read(text.as_bytes())?;
+    if hertz.units() <= 0 {
+        return None;
+    }
+    Some(LineFrequency::Given(hertz))
+}
+
+/// The line frequency that is asked for; None if it cannot be taken, with the error in `said`.
+fn frequency_for<A: Allocator>(
+    viewed: Viewed<'_>,
+    said: &mut Vec<u8, A>,
+) -> Result<Option<LineFrequency>, ToolFault> {
+    let frequency = frequency_in(viewed.cursor.frequency);
+    if frequency.is_none() {
+        put(said, NO_FREQUENCY)?;
+        return Ok(None);
+    }
+    let is_course = measuring_of(viewed.part, viewed.cursor) == Measuring::Course;
+    if is_course && frequency == Some(LineFrequency::Measured) {
+        put(said, NO_MOMENT)?;
+        return Ok(None);
+    }
+    Ok(frequency)
+}
+
 /// Prints what is measured in a record, or in the part that is asked for; false if that is refused,
 /// with the error in `said`.
 pub(crate) fn measure_over<A: Allocator + Copy, W: Write>(
     room: Room<A>,
     viewed: Viewed<'_>,
-    taken: &Taken<A>,
+    taken: &mut Taken<A>,
     w: &mut W,
     said: &mut Vec<u8, A>,
 ) -> Result<bool, ToolFault> {
+    let Some(frequency) = frequency_for(viewed, said)? else {
+        return Ok(false);
+    };
     let shown = Shown {
         times: &taken.times,
         first: taken.before,
@@ -77,8 +123,9 @@ pub(crate) fn measure_over<A: Allocator + Copy, W: Write>(
     match measure_text(
         room.texts,
         room.lists,
-        &taken.file,
+        &mut taken.file,
         measuring_of(viewed.part, viewed.cursor),
+        frequency,
         shown,
     ) {
         Ok(text) => {

@@ -1,17 +1,23 @@
 //! The commands over many records.
 
 use crate::content::{NO_ENCODING, Reading, encoding_of, file_spelled};
+use crate::event_file::{Named, broken_line, event_file_named};
 use crate::folder::{Pairs, pairs_of};
 use crate::load::{Inputs, read_record};
-use crate::{complain, print_bytes, say};
+use crate::output::put_out;
+use crate::zones::to_zone_of;
+use crate::{complain, say};
+use comtrade_diagnostics::Zone;
 use comtrade_format::File;
-use comtrade_io::{Names, Survey, ToolFault, put_safe};
+use comtrade_io::{Names, Survey, Surveyed, ToolFault, put_safe};
 use comtrade_values::{lines_of, put, without_blank_end};
 use comtrade_views::{
-    Event, Summary, add_events, fault_summary, put_events, put_events_json, put_summaries,
-    put_summaries_json, sort_events, sort_summaries, summary_of,
+    Event, EventLine, Filter, Summary, add_events, chosen_events, event_in_line, fault_summary,
+    put_events, put_events_csv, put_events_json, put_summaries, put_summaries_json, sort_events,
+    sort_summaries, summary_of,
 };
 use std::alloc::Global;
+use std::mem;
 use std::rt::Files;
 
 /// What was found so far.
@@ -20,8 +26,12 @@ struct Found {
     records: Vec<Summary>,
     events: Vec<Event>,
     names: Vec<String>,
+    /// The names of records that were read and aren't meant.
+    others: Vec<String>,
     /// Whether each record could be read.
     is_sound: bool,
+    /// The time code of the first record that has one.
+    zone: Option<Zone>,
 }
 
 /// Prints the repairs of a record: lines, each after its name.
@@ -42,25 +52,51 @@ pub(crate) fn say_repairs<R: Eprint + AllocGlobal>(
     Ok(())
 }
 
-/// Adds a record.
-fn add_file(
+/// Adds a record to the list, if it is meant.
+fn add_summary(
     alloc: Global,
-    survey: Survey,
+    filter: &Filter<'_>,
     found: &mut Found,
     file: &File,
     name: &str,
 ) -> Result<(), ToolFault> {
-    match survey {
-        Survey::List => found
-            .records
-            .push(summary_of(alloc, file, name.as_bytes())?)?,
-        Survey::Events => {
-            let place = found.names.len();
-            found.names.push(String::from_str(alloc, name)?)?;
-            add_events(alloc, &mut found.events, file, place)?;
-        }
+    let summary = summary_of(alloc, file, name.as_bytes())?;
+    if filter.has_record(alloc, &summary)? {
+        found.records.push(summary)?;
+    } else {
+        found.others.push(String::from_str(alloc, name)?)?;
     }
     Ok(())
+}
+
+/// Adds the events of a record, if its station is meant.
+fn add_changes(
+    alloc: Global,
+    filter: &Filter<'_>,
+    found: &mut Found,
+    file: &File,
+    name: &str,
+) -> Result<(), ToolFault> {
+    if filter.has_station(file.head.station.items()) {
+        let place = found.names.len();
+        found.names.push(String::from_str(alloc, name)?)?;
+        add_events(alloc, &mut found.events, file, place)?;
+    }
+    Ok(())
+}
+
+/// Adds a record.
+fn add_file(
+    alloc: Global,
+    asked: Asked<'_>,
+    found: &mut Found,
+    file: &File,
+    name: &str,
+) -> Result<(), ToolFault> {
+    match asked.survey {
+        Survey::List => add_summary(alloc, asked.filter, found, file, name),
+        Survey::Events => add_changes(alloc, asked.filter, found, file, name),
+    }
 }
 
 /// Adds a record that cannot be read; for events, why is printed.
@@ -79,10 +115,11 @@ fn add_fault<R: Eprint + AllocGlobal>(
     Ok(())
 }
 
-/// What is asked of each record, and the encoding of its texts.
+/// What is asked of each record, which are meant, and the encoding of their texts.
 #[derive(Clone, Copy)]
 struct Asked<'a> {
     survey: Survey,
+    filter: &'a Filter<'a>,
     encoding: Option<&'a str>,
 }
 
@@ -99,9 +136,10 @@ fn add_pair<R: AllocGlobal + Eprint>(
     let survey = asked.survey;
     let reading = Reading::to_list(asked.encoding, survey == Survey::List);
     match file_spelled(alloc, inputs, reading, &mut said)? {
-        Some(loaded) => {
+        Some(mut loaded) => {
+            to_zone_of(&mut found.zone, &mut loaded, &mut said)?;
             say_repairs(rt, name, &said)?;
-            add_file(alloc, survey, found, &loaded.file, name)?;
+            add_file(alloc, asked, found, &loaded.file, name)?;
         }
         None if inputs.is_single() => {
             found.is_sound = false;
@@ -112,6 +150,9 @@ fn add_pair<R: AllocGlobal + Eprint>(
     Ok(())
 }
 
+/// What is said of a name that is not UTF-8.
+pub(crate) const NOT_UTF8: &str = ": cannot be opened, because its name is not valid UTF-8\n";
+
 /// Adds the names that are not UTF-8.
 fn add_odd<R: Eprint + AllocGlobal>(
     rt: &R,
@@ -121,11 +162,36 @@ fn add_odd<R: Eprint + AllocGlobal>(
 ) -> Result<(), ToolFault> {
     for name in names {
         let mut text = Vec::from_slice(rt.alloc(), name)?;
-        put(
-            &mut text,
-            ": cannot be opened, because its name is not valid UTF-8\n",
-        )?;
+        put(&mut text, NOT_UTF8)?;
         add_fault(rt, survey, found, text, name)?;
+    }
+    Ok(())
+}
+
+/// Adds the events of a file of events, and prints which of its lines are broken.
+fn add_event_file<R: Eprint + AllocGlobal>(
+    rt: &R,
+    filter: &Filter<'_>,
+    found: &mut Found,
+    name: &str,
+    bytes: &[u8],
+) -> Result<(), ToolFault> {
+    let alloc = rt.alloc();
+    let place = found.names.len();
+    found.names.push(String::from_str(alloc, name)?)?;
+    let lines = lines_of(alloc, bytes)?;
+    for (number, line) in lines.iter().enumerate().skip(1) {
+        if line.is_empty() {
+            continue;
+        }
+        match event_in_line(alloc, filter, line, place)? {
+            EventLine::Event(event) => found.events.push(event)?,
+            EventLine::Other => {}
+            EventLine::Broken => {
+                found.is_sound = false;
+                say(rt, &broken_line(alloc, name, number)?);
+            }
+        }
     }
     Ok(())
 }
@@ -138,6 +204,19 @@ fn add_pairs<R: Files + Input + Eprint + AllocGlobal + Clone + Drop>(
     pairs: &[String],
 ) -> Result<(), ToolFault> {
     for pair in pairs {
+        if asked.survey == Survey::Events {
+            match event_file_named(rt, pair.as_str())? {
+                Named::Events(bytes) => {
+                    add_event_file(rt, asked.filter, found, pair.as_str(), &bytes)?;
+                    continue;
+                }
+                Named::Unusable => {
+                    found.is_sound = false;
+                    continue;
+                }
+                Named::Other => {}
+            }
+        }
         let name = Names {
             file: pair.as_str(),
             dat: None,
@@ -150,77 +229,129 @@ fn add_pairs<R: Files + Input + Eprint + AllocGlobal + Clone + Drop>(
     Ok(())
 }
 
-/// The text of what was found, in its order, or the same as JSON.
-fn text_of<R: AllocGlobal>(
-    rt: &R,
-    survey: Survey,
-    json: bool,
-    found: &mut Found,
-) -> Result<Vec<u8>, ToolFault> {
-    match survey {
-        Survey::List => sort_summaries(&mut found.records)?,
-        Survey::Events => sort_events(&mut found.events)?,
-    }
-    let mut out = Vec::new(rt.alloc());
-    match survey {
-        Survey::List if json => put_summaries_json(rt.alloc(), &mut out, &found.records)?,
-        Survey::Events if json => {
-            put_events_json(rt.alloc(), &mut out, &found.events, &found.names)?
-        }
-        Survey::List if found.records.is_empty() => {}
-        Survey::List => {
-            put_summaries(rt.alloc(), &mut out, &found.records)?;
-        }
-        Survey::Events if found.names.is_empty() => {}
-        Survey::Events => {
-            put_events(rt.alloc(), &mut out, &found.events, &found.names)?;
-        }
+/// The list of records, in its order, or the same as JSON.
+fn list_text(alloc: Global, json: bool, found: &mut Found) -> Result<Vec<u8>, ToolFault> {
+    sort_summaries(&mut found.records)?;
+    let mut out = Vec::new(alloc);
+    if json {
+        put_summaries_json(alloc, &mut out, &found.records)?;
+    } else if !found.records.is_empty() || !found.others.is_empty() {
+        let others = found.others.len() as u64;
+        put_summaries(alloc, &mut out, &found.records, others)?;
     }
     Ok(out)
 }
 
+/// The events in their order: as a table, as JSON, or as comma-separated values.
+fn events_text(
+    alloc: Global,
+    asked: &Surveyed<'_>,
+    events: &[Event],
+    names: &[String],
+) -> Result<Vec<u8>, ToolFault> {
+    let mut out = Vec::new(alloc);
+    if asked.csv {
+        put_events_csv(alloc, &mut out, events, names)?;
+    } else if asked.json {
+        put_events_json(alloc, &mut out, events, names)?;
+    } else if !names.is_empty() {
+        put_events(alloc, &mut out, events, names)?;
+    }
+    Ok(out)
+}
+
+/// Leaves the events that are meant, in their order.
+fn choose_events(alloc: Global, filter: &Filter<'_>, found: &mut Found) -> Result<(), ToolFault> {
+    let events = mem::replace(&mut found.events, Vec::new(alloc));
+    found.events = chosen_events(alloc, filter, events)?;
+    sort_events(&mut found.events)
+}
+
+/// The text of what was found.
+fn text_of(
+    alloc: Global,
+    survey: Survey,
+    filter: &Filter<'_>,
+    asked: &Surveyed<'_>,
+    found: &mut Found,
+) -> Result<Vec<u8>, ToolFault> {
+    match survey {
+        Survey::List => list_text(alloc, asked.json, found),
+        Survey::Events => {
+            choose_events(alloc, filter, found)?;
+            events_text(alloc, asked, &found.events, &found.names)
+        }
+    }
+}
+
 fn survey_pairs<R: Files + Input + Eprint + AllocGlobal + Clone + Drop>(
     rt: &R,
-    asked: Asked<'_>,
-    json: bool,
+    survey: Survey,
+    filter: &Filter<'_>,
+    asked: &Surveyed<'_>,
     pairs: &Pairs,
 ) -> Result<(Vec<u8>, bool), ToolFault> {
+    let alloc = rt.alloc();
     let mut found = Found {
-        records: Vec::new(rt.alloc()),
-        events: Vec::new(rt.alloc()),
-        names: Vec::new(rt.alloc()),
-        is_sound: true,
+        records: Vec::new(alloc),
+        events: Vec::new(alloc),
+        names: Vec::new(alloc),
+        others: Vec::new(alloc),
+        is_sound: pairs.is_whole,
+        zone: None,
     };
-    add_odd(rt, asked.survey, &mut found, &pairs.odd)?;
-    add_pairs(rt, asked, &mut found, &pairs.names)?;
-    let mut text = text_of(rt, asked.survey, json, &mut found)?;
-    if pairs.names.is_empty() && pairs.odd.is_empty() && !json {
+    let each = Asked {
+        survey,
+        filter,
+        encoding: asked.encoding,
+    };
+    add_odd(rt, survey, &mut found, &pairs.odd)?;
+    add_pairs(rt, each, &mut found, &pairs.names)?;
+    let mut text = text_of(alloc, survey, filter, asked, &mut found)?;
+    if pairs.names.is_empty() && pairs.odd.is_empty() && !asked.json && !asked.csv {
         put(&mut text, "0 pairs\n")?;
     }
     Ok((text, found.is_sound))
+}
+
+/// Prints what is in the records that are meant.
+fn put_survey<R: Files + Input + Print + Eprint + AllocGlobal + Clone + Drop>(
+    rt: &R,
+    survey: Survey,
+    filter: &Filter<'_>,
+    asked: &Surveyed<'_>,
+) -> u8 {
+    let Ok(pairs) = pairs_of(rt, &asked.names, asked.recursive) else {
+        return 1;
+    };
+    match survey_pairs(rt, survey, filter, asked, &pairs) {
+        Ok((text, is_sound)) => {
+            let status = put_out(rt, asked.output, &text);
+            if is_sound { status } else { 1 }
+        }
+        Err(fault) => complain(rt, "records", fault),
+    }
 }
 
 /// Prints what is in the named records. The status is 1 if one cannot be read.
 pub(crate) fn run_survey<R: Files + Input + Print + Eprint + AllocGlobal + Clone + Drop>(
     rt: &R,
     survey: Survey,
-    json: bool,
-    encoding: Option<&str>,
-    names: &[&str],
+    asked: &Surveyed<'_>,
 ) -> u8 {
-    if encoding_of(encoding).is_none() {
+    if encoding_of(asked.encoding).is_none() {
         say(rt, NO_ENCODING.as_bytes());
         return 1;
     }
-    let Ok(pairs) = pairs_of(rt, names) else {
-        return 1;
-    };
-    let asked = Asked { survey, encoding };
-    match survey_pairs(rt, asked, json, &pairs) {
-        Ok((text, is_sound)) => {
-            let status = print_bytes(rt, &text);
-            if is_sound { status } else { 1 }
+    if asked.csv && asked.json {
+        let _ = eprintln!(rt; "error: --csv cannot be combined with --json");
+        return 2;
+    }
+    match Filter::of(asked) {
+        Ok(filter) => put_survey(rt, survey, &filter, asked),
+        Err(fault) => {
+            let _ = eprintln!(rt; "comtrade: {fault}");
+            1
         }
-        Err(fault) => complain(rt, "records", fault),
     }
 }

@@ -10,7 +10,8 @@ use comtrade_format::File;
 use comtrade_io::{Part, Picture, ToolFault, View, Viewed, write_out};
 use comtrade_plot::{PlotOptions, Rms, Timed, page_over, plot_over};
 use comtrade_values::{lines_of, put, without_blank_end};
-use comtrade_views::{Spelling, csv_over, put_text, show_json, show_over};
+use comtrade_views::{Spelling, csv_over, put_json, show_json, show_over, text_of};
+use serde::Serialize;
 use std::alloc::{AllocError, Allocator, Global};
 use std::io::Write;
 
@@ -66,6 +67,7 @@ pub(crate) fn options_of(picture: Picture<'_>) -> Option<PlotOptions> {
     Some(PlotOptions {
         is_whole: picture.whole,
         shows_all: picture.all,
+        is_for_print: picture.print,
         width: size_of(picture.width)?,
         height: size_of(picture.height)?,
     })
@@ -114,32 +116,29 @@ pub(crate) fn check<A: Allocator + Copy, W: Write>(
     }
 }
 
+/// A verdict, and the lines of its text.
+#[derive(Drop, Serialize)]
+struct Verdict {
+    sound: bool,
+    lines: Vec<String>,
+}
+
 /// A verdict as a JSON object.
 pub(crate) fn verdict_json(
     alloc: Global,
     is_sound: bool,
     text: &[u8],
 ) -> Result<Vec<u8>, AllocError> {
-    let mut out = Vec::new(alloc);
-    put(
-        &mut out,
-        if is_sound {
-            "{\"sound\":true"
-        } else {
-            "{\"sound\":false"
-        },
-    )?;
-    put(&mut out, ",\"lines\":[")?;
-    let mut is_first = true;
+    let mut verdict = Verdict {
+        sound: is_sound,
+        lines: Vec::new(alloc),
+    };
     let lines = lines_of(alloc, text)?;
     for line in without_blank_end(&lines) {
-        if !is_first {
-            put(&mut out, ",")?;
-        }
-        is_first = false;
-        put_text(alloc, &mut out, line)?;
+        verdict.lines.push(text_of(alloc, line)?)?;
     }
-    put(&mut out, "]}\n")?;
+    let mut out = Vec::new(alloc);
+    put_json(alloc, &mut out, &verdict)?;
     Ok(out)
 }
 
@@ -179,7 +178,7 @@ fn part_in<'a, A: Allocator>(
 /// Prints what is asked of a part; false if it cannot be measured, with the error in `said`.
 fn view_taken<A: Allocator + Copy, W: Write>(
     asked: &Request<'_, A>,
-    taken: &Taken<A>,
+    taken: &mut Taken<A>,
     w: &mut W,
     said: &mut Vec<u8, A>,
 ) -> Result<bool, ToolFault> {
@@ -199,7 +198,7 @@ fn view_part<A: Allocator + Copy, W: Write>(
     said: &mut Vec<u8, A>,
 ) -> Result<bool, ToolFault> {
     match taken_of(asked.room.lists, file, part, said)? {
-        Some(taken) => view_taken(asked, &taken, w, said),
+        Some(mut taken) => view_taken(asked, &mut taken, w, said),
         None => Ok(false),
     }
 }

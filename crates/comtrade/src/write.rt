@@ -26,7 +26,7 @@ fn take_back<R: Files + Eprint + AllocGlobal>(rt: &R, name: &str) {
 }
 
 /// Writes a file that does not exist yet. On an error it prints why, and removes what it began.
-fn write_new<R: Files + Eprint + AllocGlobal>(rt: &R, name: &str, bytes: &[u8]) -> bool {
+pub(crate) fn write_new<R: Files + Eprint + AllocGlobal>(rt: &R, name: &str, bytes: &[u8]) -> bool {
     let mut file = match File::create_new(rt, name) {
         Ok(file) => file,
         Err(error) => {
@@ -148,7 +148,11 @@ fn write_whole<R: Files + Eprint + AllocGlobal, A: Allocator + Copy>(
     inputs: &Inputs,
     loaded: Loaded<A>,
 ) -> u8 {
-    let Loaded { mut file, origin } = loaded;
+    let Loaded {
+        mut file,
+        origin,
+        ..
+    } = loaded;
     file.head.kind = asked.kind;
     match written_of(lists, &file) {
         Ok(made) => write_named(rt, asked.name, &made.cfg, &made.dat),

@@ -1,6 +1,6 @@
 -- Quotients and squares that are rounded down.
-use Rattle.std.proofs.Common.{◌≡◌, ◌≢◌, ℕ, zero, suc, ◌+◌, ◌-◌, ◌*◌, ◌/◌, ◌^◌, ◌<◌, ◌≤◌, ◌⊎◌, inl, inr, pos, negsuc, ◌<ℤ◌, Option, Some, None, SomeIff, IfNone, refl, sym, ap, ◌∙◌, subst, arith}
-use Rattle.std.proofs.Math.Nat.{mul-le-mul, mul-le-mul_left, mul-le-mul_right, mul-lt-mul_of_pos_right, one-le-pow, pow-suc, pow-le-pow_right, div-mul-le_self, lt-div-mul-add, lt_of_not-le}
+use Rattle.std.proofs.Common.{◌≡◌, ◌≢◌, ℕ, zero, suc, ◌+◌, ◌-◌, ◌*◌, ◌/◌, ◌^◌, ◌<◌, ◌≤◌, ◌⊎◌, inl, inr, pos, Option, Some, None, SomeIff, IfNone, refl, sym, ap, ◌∙◌, subst, arith}
+use Rattle.std.proofs.Math.Nat.{mul-le-mul, mul-le-mul_right, mul-lt-mul_of_pos_right, one-le-pow, pow-suc, pow-le-pow_right, div-mul-le_self, lt-div-mul-add, lt_of_not-le}
 use Rattle.std.proofs.lemmas.Nat.{mul-pow}
 use Rattle.std.proofs.lemmas.Int.{ints}
 use Rattle.comtrade_values.specs.Spelling.{Number, IsNumber}

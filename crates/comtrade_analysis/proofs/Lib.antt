@@ -2,6 +2,7 @@ pub mod FirstEvents
 pub mod Floors
 pub mod InPlace
 pub mod MoreContacts
+pub mod MorePeaks
 pub mod MoreRows
 pub mod MoreSquares
 pub mod MoreSums

@@ -1,12 +1,12 @@
 -- The order of values a * x + b is that of samples, or the reverse where a is negative.
-use Rattle.std.proofs.Common.{◌≡◌, ◌≢◌, ℕ, suc, ◌+◌, ◌*◌, ◌^◌, ◌-◌, ◌<◌, ◌≤◌, ℤ, pos, negsuc, neg_ℤ, ◌+ℤ◌, ◌*ℤ◌, ◌≤ℤ◌, ◌<ℤ◌, List, Option, Some, None, arith}
+use Rattle.std.proofs.Common.{◌≢◌, ℕ, suc, ◌*◌, ◌^◌, ◌-◌, ◌≤◌, ℤ, pos, negsuc, ◌+ℤ◌, ◌*ℤ◌, ◌≤ℤ◌, ◌<ℤ◌, List, Some, arith}
 use Rattle.std.proofs.Math.Nat.{mul-le-mul_left, mul-le-mul_right}
 use Rattle.std.proofs.lemmas.Int.{ints}
 use Rattle.comtrade_format.specs.Parts.{RowParts}
 use Rattle.comtrade_values.specs.Arithmetic.{value, places_of}
 use Rattle.comtrade_values.specs.Spelling.{Number}
-use Rattle.comtrade_analysis.specs.Extremes.{EachSample, IsLeast, IsGreatest, AreExtremes}
-use Rattle.comtrade_analysis.specs.ValueExtremes.{units_of, IsFirstOf, AreBounds, AreValueExtremes}
+use Rattle.comtrade_analysis.specs.Extremes.{AreExtremes}
+use Rattle.comtrade_analysis.specs.ValueExtremes.{AreValueExtremes}
 use Rattle.comtrade_analysis.specs.declared.extremes.Extremes.{Extremes}
 use Rattle.comtrade_analysis.specs.declared.factors.Factors.{Factors}
 

@@ -12,4 +12,8 @@ pub mod Phases
 pub mod Sequences
 pub mod Surveys
 pub mod Outages
+pub mod Angles
+pub mod Fits
+pub mod Peaks
+pub mod Rms
 pub mod Contacts

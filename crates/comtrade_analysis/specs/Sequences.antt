@@ -1,5 +1,5 @@
 -- Which channels are phases A, B and C of one unit. Channels count from 0.
-use Rattle.std.specs.Prelude.{◌≡◌, ◌<◌, ℕ, ◌+◌, Bool, true, false, ◌&&◌, ◌||◌, if◌then◌else◌, List, [], length, take, drop, position, slice_get, unwrap_or, option_map, option_and_then, Option, Some, None, is_some, IfSome}
+use Rattle.std.specs.Prelude.{◌≡◌, ◌<◌, ℕ, ◌+◌, Bool, true, false, ◌&&◌, ◌||◌, if◌then◌else◌, List, length, take, drop, position, slice_get, unwrap_or, option_map, option_and_then, Option, Some, None, is_some, IfSome}
 use Rattle.std.specs.List.{filter_map, range_with_len, HoldsAt}
 use Rattle.std.specs.Str.{bytes_eq}
 use Rattle.dfr_channels.specs.Parts.{AnalogParts}

@@ -1,6 +1,8 @@
 pub mod Buffers
 pub mod Faults
 pub mod Importing
+pub mod Measures
+pub mod Cycles
 pub mod Tables
 pub mod Channels
 pub mod Summaries

@@ -21,10 +21,14 @@ pub(crate) const WRITE_FAULT: i32 = 3;
 pub(crate) const NO_MEMORY: i32 = 4;
 /// A buffer is too short, or doesn't have the length that it must have.
 pub(crate) const NO_ROOM: i32 = 5;
+/// There is no such channel or rate.
+pub(crate) const NO_ITEM: i32 = 6;
 /// An argument is not one that the call accepts.
 pub(crate) const BAD_CALL: i32 = 9;
 /// The files cannot be converted to a pair of 1999.
 pub(crate) const REFUSED: i32 = 10;
+/// The file or the samples have no such measure.
+pub(crate) const NO_MEASURE: i32 = 11;
 
 /// An error: its kind, its line or row (`place`), and its field or channel (`field`). Places and
 /// fields count from 1, and are 0 if the kind has none.

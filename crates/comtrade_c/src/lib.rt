@@ -6,7 +6,9 @@
 mod answer;
 mod binary;
 mod channels;
+mod cycles;
 mod import;
+mod measure;
 mod rows;
 mod summary;
 mod texts;

@@ -24,7 +24,7 @@ pub(crate) struct Sizes {
     pub dat: usize,
 }
 
-fn reading_of(sample: i32) -> Reading
+pub(crate) fn reading_of(sample: i32) -> Reading
     ensures { result ≡ spec.reading_of sample }
 {
     if sample == NO_SAMPLE {

@@ -10,6 +10,7 @@ use crate::silent::Refusal;
 use crate::single::repaired_single;
 use comtrade_dialects::{Choices, ImportFault, Key, Note, narrow};
 use comtrade_io::put_safe;
+use comtrade_read::{Fault, Part, ReadFault};
 use comtrade_values::put;
 use std::alloc::{AllocError, Allocator};
 
@@ -88,42 +89,81 @@ fn put_reads<A: Allocator>(out: &mut Vec<u8, A>, notes: &[Note<A>]) -> Result<()
     put(out, ")")
 }
 
-/// Appends a line on a pair that the exact reader refuses, if it can be repaired or its text is
-/// unusual.
+/// Whether an error is in the first line, where files of other editions are refused.
+fn is_of_edition(part: Part, fault: ReadFault) -> bool {
+    part == Part::Cfg && matches!(fault, ReadFault::Revision | ReadFault::Fields(1))
+}
+
+/// What stops `import`, where it is not what stopped the exact reader: its error is one of another
+/// edition, and `import` reads the first line.
+fn other_obstacle(found: Fault, fault: Refusal) -> Option<Refusal> {
+    match fault {
+        Refusal::Fault(ImportFault::Cfg(1, _)) => None,
+        _ if is_of_edition(found.part, found.fault) => Some(fault),
+        _ => None,
+    }
+}
+
+/// Appends a line on a pair that the exact reader refuses for this error, if it can be repaired, if
+/// its text is unusual, or if another error stops `import`.
 pub fn put_hint<A: Allocator + Copy>(
     alloc: A,
     out: &mut Vec<u8, A>,
     pair: Pair<'_>,
+    found: Fault,
 ) -> Result<(), AllocError> {
     let text = if is_utf16(alloc, pair.cfg)? {
         Some("UTF-16")
     } else {
         nature_of_lines(pair.cfg)
     };
-    let notes = match repaired_pair(alloc, pair.cfg, pair.dat, Choices::default()) {
-        Ok(repaired) => Some(repaired.notes),
-        Err(Refusal::Fault(ImportFault::Memory)) => return Err(AllocError),
-        Err(_) => None,
-    };
-    if text.is_none() && notes.is_none() {
+    match repaired_pair(alloc, pair.cfg, pair.dat, Choices::default()) {
+        Ok(repaired) => {
+            put_safe(out, pair.cfg_name)?;
+            put(out, ": ")?;
+            if put_natures(out, text, &repaired.notes)? {
+                put(out, "; ")?;
+            }
+            put_reads(out, &repaired.notes)?;
+            put(out, "\n")
+        }
+        Err(Refusal::Fault(ImportFault::Memory)) => Err(AllocError),
+        Err(fault) => put_obstacle(alloc, out, pair, text, other_obstacle(found, fault)),
+    }
+}
+
+/// Appends a line on a pair that `import` cannot read: what its text is, and why.
+fn put_obstacle<A: Allocator + Copy>(
+    alloc: A,
+    out: &mut Vec<u8, A>,
+    pair: Pair<'_>,
+    text: Option<&str>,
+    fault: Option<Refusal>,
+) -> Result<(), AllocError> {
+    if text.is_none() && fault.is_none() {
         return Ok(());
     }
     put_safe(out, pair.cfg_name)?;
     put(out, ": ")?;
-    match notes {
-        Some(notes) => {
-            if put_natures(out, text, &notes)? {
-                put(out, "; ")?;
-            }
-            put_reads(out, &notes)?;
-        }
-        None => {
-            if let Some(nature) = text {
-                put(out, nature)?;
-            }
-        }
+    if let Some(nature) = text {
+        put(out, nature)?;
+    }
+    if let Some(fault) = fault {
+        put(out, if text.is_some() { "; " } else { "" })?;
+        put_unread(alloc, out, fault)?;
     }
     put(out, "\n")
+}
+
+/// Appends why `import` cannot read the files.
+fn put_unread<A: Allocator + Copy>(
+    alloc: A,
+    out: &mut Vec<u8, A>,
+    fault: Refusal,
+) -> Result<(), AllocError> {
+    let text = format!(in alloc; "{fault}")?;
+    put(out, "`comtrade import` cannot read it: ")?;
+    put_safe(out, text.as_str().as_bytes())
 }
 
 /// Appends what a single file is, and that `import` reads it or why it cannot.
@@ -137,11 +177,7 @@ fn put_single_words<A: Allocator + Copy>(
     match repaired_single(alloc, pair.cfg, Choices::default()) {
         Ok(Repaired { notes, .. }) => put_reads(out, &notes),
         Err(Refusal::Fault(ImportFault::Memory)) => Err(AllocError),
-        Err(fault) => {
-            let text = format!(in alloc; "{fault}")?;
-            put(out, "`comtrade import` cannot read it: ")?;
-            put_safe(out, text.as_str().as_bytes())
-        }
+        Err(fault) => put_unread(alloc, out, fault),
     }
 }
 

@@ -6,7 +6,9 @@ ghost use Rattle.comtrade_read.specs.Reads.{Reads};
 
 use crate::silent::{Refusal, Silent, silent_in};
 use crate::single::repaired_single;
-use comtrade_dialects::{Choices, ImportFault, Note, Notes, Samples, Why, is_sound, repaired};
+use comtrade_dialects::{
+    Choices, ImportFault, Note, Notes, Samples, Why, Zone, is_sound, repaired,
+};
 use comtrade_format::{File, WriteFault};
 use comtrade_read::{ReadFault, Written, one_file, read, written_of};
 use std::alloc::{Allocator, Global};
@@ -17,6 +19,8 @@ use std::alloc::{Allocator, Global};
 pub struct Repaired<A: Allocator = Global> {
     pub file: File<A>,
     pub notes: Vec<Note<A>, A>,
+    /// The time code of its instants, if the files have one.
+    pub zone: Option<Zone>,
 }
 
 /// A file of 1999, its two texts, and notes on the repairs.
@@ -41,7 +45,7 @@ fn finished<A: Allocator + Copy>(
     ensures notes { IfOk result (λ done. done.notes.items ≡ repaired.notes.items) }
     ensures exact { IfOk result (λ done. done.is_exact ≡ is_exact) }
 {
-    let Repaired { file, notes } = repaired;
+    let Repaired { file, notes, .. } = repaired;
     match written_of(alloc, &file) {
         Ok(written) => {
             let Written { cfg, dat } = written;
@@ -72,10 +76,11 @@ pub(crate) fn told<A: Allocator + Copy>(
     notes: Notes<A>,
     samples: Samples,
 ) -> Result<Repaired<A>, Refusal> {
+    let zone = notes.zone();
     let notes = notes.into_list();
     match silent_in(alloc, dat, &file, &notes, samples)? {
         Some(silent) => Err(Refusal::Silent(silent)),
-        None => Ok(Repaired { file, notes }),
+        None => Ok(Repaired { file, notes, zone }),
     }
 }
 
@@ -113,8 +118,12 @@ fn exact<A: Allocator + Copy>(
     if !is_sound(alloc, &file, dat)? {
         return Ok(None);
     }
-    let notes = Vec::new(alloc);
-    match finished(alloc, Repaired { file, notes }, true) {
+    let literal = Repaired {
+        file,
+        notes: Vec::new(alloc),
+        zone: None,
+    };
+    match finished(alloc, literal, true) {
         Ok(imported) => Ok(Some(imported)),
         Err(ImportFault::Memory) => Err(ImportFault::Memory),
         Err(_) => Ok(None),

@@ -23,7 +23,7 @@ pub enum Texts {
 pub enum Intended<A: Allocator> {
     /// What it reads as.
     Literal(File<A>),
-    /// The file that `import` makes of it, and notes on the repairs.
+    /// The file that `import` makes of it, and notes on the repairs and on what is odd.
     Repaired(File<A>, Vec<Note<A>, A>),
     /// Unknown: what it reads as, and why `import` cannot read it.
     Unclear(File<A>, Refusal),
@@ -33,7 +33,13 @@ pub enum Intended<A: Allocator> {
 fn is_of_texts(key: Key) -> bool {
     matches!(
         key,
-        Key::TextsNotAscii | Key::TextLong | Key::PhaseLong | Key::UnitEmpty | Key::TextComma
+        Key::TextsNotAscii
+            | Key::TextLong
+            | Key::TextNul
+            | Key::PhaseLong
+            | Key::UnitEmpty
+            | Key::TextComma
+            | Key::IdsAlike
     )
 }
 
@@ -162,22 +168,25 @@ fn is_same<A: Allocator>(one: &File<A>, other: &File<A>) -> bool {
 }
 
 /// The repaired file of a pair that reads to `literal`. That file itself if they have the same
-/// values and times.
+/// values and times, with the notes on what is odd in it.
 fn repaired_as<A: Allocator + Copy>(
     alloc: A,
     repaired: Repaired<A>,
     literal: File<A>,
     texts: Texts,
 ) -> Result<Intended<A>, AllocError> {
-    let Repaired { file, notes } = repaired;
-    if texts == Texts::Literal && is_same(&literal, &file) {
-        return Ok(Intended::Literal(literal));
-    }
+    let Repaired { file, notes, .. } = repaired;
     if texts == Texts::Imported || !are_alike(&file.head, &literal.head) {
         return Ok(Intended::Repaired(file, notes));
     }
     let notes = without_texts(alloc, notes)?;
-    Ok(Intended::Repaired(renamed(file, literal.head), notes))
+    if !is_same(&literal, &file) {
+        return Ok(Intended::Repaired(renamed(file, literal.head), notes));
+    }
+    if notes.is_empty() {
+        return Ok(Intended::Literal(literal));
+    }
+    Ok(Intended::Repaired(literal, notes))
 }
 
 /// What a pair means that reads exactly to this file: the same, unless a sign in the pair shows

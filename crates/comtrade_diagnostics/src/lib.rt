@@ -26,7 +26,7 @@ mod untold;
 mod verdict;
 
 pub use check::{Pair, put_fault, put_no_fault};
-pub use comtrade_dialects::{Choices, ImportFault, Key, Note, Order, Samples};
+pub use comtrade_dialects::{Choices, ImportFault, Key, Note, Order, Samples, Zone};
 pub use hints::{put_hint, put_single};
 pub use importing::{Imported, Repaired, import, import_single, repaired_pair};
 pub use intended::{Intended, Texts, intended_of};

@@ -31,8 +31,9 @@ fn put_verdict<A: Allocator + Copy>(
         }
         Err((_, ReadFault::Memory)) => Err(ToolFault::Memory),
         Err((part, fault)) => {
-            put_fault(alloc, out, pair, Fault { part, fault })?;
-            put_hint(alloc, out, pair)?;
+            let found = Fault { part, fault };
+            put_fault(alloc, out, pair, found)?;
+            put_hint(alloc, out, pair, found)?;
             Ok(false)
         }
     }

@@ -97,7 +97,7 @@ fn unit_of<A: Allocator + Copy>(
     shape: Shape<'_>,
 ) -> Result<Items<u8, A>, ImportFault> {
     let unit = text_of(notes, shape.line, shape.parts.at(4), 32, None)?;
-    if !unit.items().is_empty() {
+    if notes.keeps_texts() || !unit.items().is_empty() {
         return Ok(unit);
     }
     notes.tell(Key::UnitEmpty, Place::Cfg(shape.line), &[])?;

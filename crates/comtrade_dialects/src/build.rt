@@ -31,16 +31,17 @@ fn times_in<A: Allocator + Copy>(
     notes: &mut Notes<A>,
     draft: &Draft<A>,
     survey: &Survey<A>,
-    is_text: bool,
+    ground: Ground<'_>,
 ) -> Result<Times<A>, ImportFault> {
     let track = Track {
         ticks: &survey.ticks,
         timemult: draft.timemult,
-        most: if is_text {
+        most: if ground.is_text() {
             9_999_999_999
         } else {
             4_294_967_294
         },
+        is_written: ground.samples == Samples::Written,
         is_pointed: survey.has_stamp_point,
         place: Place::Whole("data file"),
     };
@@ -58,7 +59,7 @@ fn body_of<A: Allocator + Copy>(
     if draft.rates.list.is_empty() {
         undo_wraps(notes, &mut survey.ticks, draft.timemult)?;
     }
-    let times = times_in(alloc, notes, draft, &survey, ground.is_text())?;
+    let times = times_in(alloc, notes, draft, &survey, ground)?;
     let Channels {
         analog,
         said,

@@ -20,7 +20,7 @@ pub(crate) struct Civil {
     /// The year comes first, or the month is a name: the order is certain.
     is_fixed: bool,
     pub has_short_year: bool,
-    /// It does not have the form dd/mm/yyyy or mm/dd/yyyy.
+    /// It has another form than dd/mm/yyyy or mm/dd/yyyy, with up to two digits for day and month.
     pub is_other: bool,
 }
 
@@ -84,6 +84,7 @@ pub(crate) fn civil_of(text: &[u8]) -> Option<Civil> {
     let (b, c) = around_any(trim(rest), marks)?;
     let c = trim(c);
     let is_slashed = has_only(text, b"0123456789/") && text.contains(&b'/');
+    let is_long = 2 < a.len() || 2 < b.len();
     if let Some(month) = month_of(b) {
         return Some(Civil {
             first: small(a)?,
@@ -110,7 +111,7 @@ pub(crate) fn civil_of(text: &[u8]) -> Option<Civil> {
         year: year_of(c)?,
         is_fixed: false,
         has_short_year: c.len() == 2,
-        is_other: !is_slashed,
+        is_other: is_long || !is_slashed,
     })
 }
 

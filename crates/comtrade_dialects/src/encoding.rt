@@ -32,9 +32,8 @@ fn unit_of(wide: Wide, pair: &[u8]) -> u16 {
     }
 }
 
-/// Appends a code unit in UTF-8; a surrogate becomes a question mark.
-fn put_unit<A: Allocator>(out: &mut Vec<u8, A>, unit: u16) -> Result<(), AllocError> {
-    let unit = u32::from(unit);
+/// Appends a character below 65,536 in UTF-8; half of a surrogate pair becomes a question mark.
+fn put_unit<A: Allocator>(out: &mut Vec<u8, A>, unit: u32) -> Result<(), AllocError> {
     if unit < 0x80 {
         out.push((unit & 0x7f) as u8)?;
         return Ok(());
@@ -52,17 +51,43 @@ fn put_unit<A: Allocator>(out: &mut Vec<u8, A>, unit: u16) -> Result<(), AllocEr
     Ok(())
 }
 
+/// Appends the character of a surrogate pair in UTF-8.
+fn put_pair<A: Allocator>(out: &mut Vec<u8, A>, high: u32, low: u32) -> Result<(), AllocError> {
+    let top = (high & 0x3ff) + 0x40;
+    out.push(0xf0 | (top >> 8 & 0x07) as u8)?;
+    out.push(0x80 | (top >> 2 & 0x3f) as u8)?;
+    out.push(0x80 | (top << 4 & 0x30) as u8 | (low >> 6 & 0x0f) as u8)?;
+    out.push(0x80 | (low & 0x3f) as u8)?;
+    Ok(())
+}
+
 /// A UTF-16 text as UTF-8, without its mark; None if it is not UTF-16.
 pub fn narrow<A: Allocator>(alloc: A, text: &[u8]) -> Result<Option<Vec<u8, A>>, AllocError> {
     let Some(wide) = wide_of(text) else {
         return Ok(None);
     };
     let mut out = Vec::new(alloc);
+    let mut high: Option<u32> = None;
     for pair in text.chunks(2) {
-        let unit = unit_of(wide, pair);
-        if unit != 0xfeff {
+        let unit = u32::from(unit_of(wide, pair));
+        match high {
+            Some(first) if 0xdc00 <= unit && unit <= 0xdfff => {
+                put_pair(&mut out, first, unit)?;
+                high = None;
+                continue;
+            }
+            Some(first) => put_unit(&mut out, first)?,
+            None => {}
+        }
+        high = None;
+        if 0xd800 <= unit && unit <= 0xdbff {
+            high = Some(unit);
+        } else if unit != 0xfeff {
             put_unit(&mut out, unit)?;
         }
+    }
+    if let Some(first) = high {
+        put_unit(&mut out, first)?;
     }
     Ok(Some(out))
 }

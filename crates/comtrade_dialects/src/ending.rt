@@ -10,6 +10,7 @@ use crate::key::Key;
 use crate::kinds::{Form, form_of};
 use crate::lines::{Reader, at, decimal_or, next_row};
 use crate::note::Place;
+use crate::zone::zone_of;
 use comtrade_values::{Decimal, trim};
 use std::alloc::Allocator;
 
@@ -109,7 +110,7 @@ fn timemult_of<A: Allocator + Copy>(
 
 /// Reads time codes and time quality, for which 1999 has no lines; refuses any other text.
 fn end_of<A: Allocator + Copy>(reader: &mut Reader<'_, '_, A>) -> Result<(), ImportFault> {
-    for _ in 0..2 {
+    for number in 0..2u8 {
         let mut ahead = reader.cursor;
         let Some(line) = ahead.next_line() else {
             return Ok(());
@@ -117,6 +118,9 @@ fn end_of<A: Allocator + Copy>(reader: &mut Reader<'_, '_, A>) -> Result<(), Imp
         let parts = Parts::of(line.text, reader.mark);
         if 2 < parts.full || 10 < parts.at(0).len() || 10 < parts.at(1).len() {
             return Err(at(line.number, Why::Extra));
+        }
+        if number == 0 {
+            reader.notes.set_zone(zone_of(parts.at(0)));
         }
         reader.cursor = ahead;
         reader.notes.tell_text(

@@ -14,7 +14,7 @@ pub enum Why {
     Empty,
     #[error("expected the station, device and year of a configuration file")]
     FirstLine,
-    #[error("expected the year 1991, 1999, 2001 or 2013")]
+    #[error("expected a year from 1991 to 2013")]
     Year,
     #[error("expected channel counts such as 5,3A,2D")]
     Counts,

@@ -14,18 +14,31 @@ use crate::lines::{Reader, Row, at, decimal_or, next_row, text_of};
 use crate::note::{Notes, Place};
 use crate::rates::rates_of;
 use crate::status::status_of;
-use comtrade_values::Decimal;
+use comtrade_values::{Decimal, integer_of};
 use std::alloc::Allocator;
 
 /// The revision in the first line.
-#[derive(Clone, Copy, PartialEq, Eq)]
-enum Year {
+#[derive(Clone, Copy)]
+enum Year<'a> {
     Absent,
     Said(Revision),
-    Other,
+    /// Another year, as it stands there.
+    Other(&'a [u8]),
 }
 
-fn year_of(row: Row<'_>) -> Result<Year, ImportFault> {
+/// Whether a text is a year between those of the revisions 1991 and 2013, or 1999 in another form.
+fn is_other_year(text: &[u8]) -> bool {
+    let digits = match text {
+        [front @ .., b'.', b'0'] => front,
+        _ => text,
+    };
+    match integer_of(digits) {
+        Some(year) => 1991 < year && year < 2013,
+        None => false,
+    }
+}
+
+fn year_of(row: Row<'_>) -> Result<Year<'_>, ImportFault> {
     if 3 < row.parts.full || row.parts.all < 2 {
         return Err(at(row.number, Why::FirstLine));
     }
@@ -34,7 +47,7 @@ fn year_of(row: Row<'_>) -> Result<Year, ImportFault> {
         b"1991" => Ok(Year::Said(Revision::Of1991)),
         b"1999" => Ok(Year::Said(Revision::Of1999)),
         b"2013" => Ok(Year::Said(Revision::Of2013)),
-        b"2001" => Ok(Year::Other),
+        text if is_other_year(text) => Ok(Year::Other(text)),
         _ => Err(at(row.number, Why::Year)),
     }
 }
@@ -51,15 +64,15 @@ fn mark_of(cursor: Cursor<'_>) -> u8 {
 /// The revision: from the year, else from the number of fields in the line of the first channel.
 fn revision_of<A: Allocator + Copy>(
     reader: &mut Reader<'_, '_, A>,
-    year: Year,
+    year: Year<'_>,
     line: u64,
     has_analog: bool,
 ) -> Result<Revision, ImportFault> {
     let place = Place::Cfg(line);
     let revision = match year {
         Year::Said(revision) => revision,
-        Year::Other => {
-            reader.notes.tell(Key::RevisionOther, place, &[])?;
+        Year::Other(text) => {
+            reader.notes.tell_text(Key::RevisionOther, place, text)?;
             return Ok(Revision::Of1999);
         }
         Year::Absent => {
@@ -135,9 +148,9 @@ fn frequency_of<A: Allocator + Copy>(
 }
 
 /// The names in the first line, with the year and the number of the line.
-fn names_of<A: Allocator + Copy>(
-    reader: &mut Reader<'_, '_, A>,
-) -> Result<(Names<A>, Year, u64), ImportFault> {
+fn names_of<'a, A: Allocator + Copy>(
+    reader: &mut Reader<'a, '_, A>,
+) -> Result<(Names<A>, Year<'a>, u64), ImportFault> {
     let mut row = next_row(&mut reader.cursor, reader.mark, reader.notes, 3)?;
     if row.parts.full == 4
         && let Some(joint) = joint_of(&row.parts, (0, true), (1, true))
@@ -155,7 +168,7 @@ fn names_of<A: Allocator + Copy>(
 fn draft_after<A: Allocator + Copy>(
     reader: &mut Reader<'_, '_, A>,
     names: Names<A>,
-    first: (Year, u64, u64),
+    first: (Year<'_>, u64, u64),
     asked: Option<Order>,
 ) -> Result<Draft<A>, ImportFault> {
     let (year, line, bytes) = first;

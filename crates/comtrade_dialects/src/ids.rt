@@ -37,7 +37,7 @@ impl<'a, A: Allocator + Copy> Ids<'a, A> {
     }
 
     /// Appends a number to an id if the id of another text is the same. `place` is the line and
-    /// the channel's number.
+    /// the channel's number. Where texts are kept, ids are as different as they are in the files.
     pub(crate) fn set_apart(
         &mut self,
         notes: &mut Notes<A>,
@@ -45,6 +45,9 @@ impl<'a, A: Allocator + Copy> Ids<'a, A> {
         text: &'a [u8],
         place: (u64, u64),
     ) -> Result<(), ImportFault> {
+        if notes.keeps_texts() {
+            return Ok(());
+        }
         let alloc = notes.allocator();
         let text = without_nuls(text);
         if self.takes(alloc, id.items(), text)? {

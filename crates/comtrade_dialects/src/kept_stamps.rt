@@ -8,7 +8,7 @@ use crate::note::Notes;
 use crate::num::Num;
 use crate::numbers::Tick;
 use crate::stamps::Track;
-use comtrade_values::Decimal;
+use comtrade_values::{Decimal, put, put_number};
 use std::alloc::Allocator;
 
 /// The stamps given by the rates, in whole microseconds; none at all if one exceeds the limit of
@@ -23,7 +23,7 @@ pub(crate) fn stamps_by_rate<A: Allocator + Copy>(
     let mut fits = true;
     for i in 0..track.ticks.len() {
         let stamp = match clock.time_of(&mut at, i as u64) {
-            Some((time, _)) => stamp_within(track, rounded(time, 1_000_000)),
+            Some((time, _)) => stamp_within(track.most, rounded(time, 1_000_000)),
             None => None,
         };
         fits = fits && stamp.is_some();
@@ -37,10 +37,10 @@ pub(crate) fn stamps_by_rate<A: Allocator + Copy>(
     Ok(list)
 }
 
-/// A number as a stamp, if the form of the data can hold it.
-fn stamp_within(track: &Track<'_>, number: Option<i128>) -> Option<u64> {
+/// A number as a stamp of at most this size.
+fn stamp_within(most: i128, number: Option<i128>) -> Option<u64> {
     let number = number?;
-    if track.most < number {
+    if most < number {
         return None;
     }
     u64::try_from(number).ok()
@@ -84,15 +84,77 @@ fn unit_of(track: &Track<'_>, one: Decimal) -> (i128, Decimal) {
     }
 }
 
-/// A stamp counted from the start in steps; None if the form of the data cannot hold it.
+/// A stamp counted from the start in steps, if it is of at most this size.
 fn kept_stamp(
-    track: &Track<'_>,
+    (timemult, most): (Decimal, i128),
     stamp: Num,
     start: Option<i128>,
     step: Option<i128>,
 ) -> Option<u64> {
-    let time = time_of_stamp(stamp, track.timemult)?;
-    stamp_within(track, rounded(time.checked_sub(start?)?, step?))
+    let time = time_of_stamp(stamp, timemult)?;
+    stamp_within(most, rounded(time.checked_sub(start?)?, step?))
+}
+
+/// Whether the form of the data can hold all stamps, counted from the start in steps.
+fn all_fit(track: &Track<'_>, start: Option<i128>, step: Option<i128>) -> bool {
+    for tick in track.ticks {
+        if let Some(stamp) = tick.stamp
+            && kept_stamp((track.timemult, track.most), stamp, start, step).is_none()
+        {
+            return false;
+        }
+    }
+    true
+}
+
+/// The unit and the time multiplier by which the form of the data can hold all stamps, and how many
+/// times as long as the given unit it is: the least power of ten. None if there is none.
+fn fitting(
+    track: &Track<'_>,
+    (start, part): (Option<i128>, i128),
+    unit: i128,
+    timemult: Decimal,
+) -> Option<(i128, Decimal, u64)> {
+    let mut times = 1u64;
+    for _ in 0..19 {
+        let longer = unit.checked_mul(i128::from(times))?;
+        if all_fit(track, start, longer.checked_mul(part)) {
+            let units = timemult.units().checked_mul(i128::from(times))?;
+            return Some((longer, Decimal::new(units, timemult.places())?, times));
+        }
+        times = times.checked_mul(10)?;
+    }
+    None
+}
+
+/// The unit of the stamps that are kept, and their time multiplier. Notes stamps that the form of
+/// the data cannot hold; where they are written, the unit is longer than that of the file.
+fn told_unit<A: Allocator + Copy>(
+    notes: &mut Notes<A>,
+    track: &Track<'_>,
+    (start, part): (Option<i128>, i128),
+    unit: i128,
+    timemult: Decimal,
+) -> Result<(i128, Decimal), ImportFault> {
+    let Some((longer, timemult_of_longer, times)) = fitting(track, (start, part), unit, timemult)
+    else {
+        return Ok((unit, timemult));
+    };
+    if times == 1 {
+        return Ok((unit, timemult));
+    }
+    let mut piece = Vec::new(notes.allocator());
+    if track.is_written {
+        put(&mut piece, "counted in a unit ")?;
+        put_number(&mut piece, times)?;
+        put(&mut piece, " times as long")?;
+    }
+    notes.tell(Key::StampsLong, track.place, &piece)?;
+    if track.is_written {
+        Ok((longer, timemult_of_longer))
+    } else {
+        Ok((unit, timemult))
+    }
 }
 
 /// The stamps that are kept, counted from 0, and their time multiplier.
@@ -113,14 +175,20 @@ pub(crate) fn kept<A: Allocator + Copy>(
         return Err(ImportFault::Whole(Why::Number));
     };
     let (unit, timemult) = unit_of(track, one);
+    let (unit, timemult) = told_unit(notes, track, (start, part), unit, timemult)?;
     let step = unit.checked_mul(part);
+    let most = if track.is_written {
+        track.most
+    } else {
+        i128::from(u64::MAX)
+    };
     let mut list = Vec::new(alloc);
     for (row, tick) in (1u64..).zip(track.ticks.iter()) {
         let Some(stamp) = tick.stamp else {
             list.push(None)?;
             continue;
         };
-        let Some(kept) = kept_stamp(track, stamp, start, step) else {
+        let Some(kept) = kept_stamp((track.timemult, most), stamp, start, step) else {
             return Err(ImportFault::Dat(row, Why::Value));
         };
         list.push(Some(kept))?;

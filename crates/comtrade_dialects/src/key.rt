@@ -9,7 +9,7 @@ pub enum Key {
     Revision2013,
     /// No year in line 1, but the lines have the 1999 form; read as revision 1999.
     RevisionAbsent,
-    /// Another known year (2001); read as revision 1999.
+    /// Another year; read as revision 1999.
     RevisionOther,
     /// 1991 has no ratio and no side; P and 1:1 are used.
     SidesAbsent,
@@ -93,7 +93,7 @@ pub enum Key {
     PhaseLong,
     /// A channel has no unit; NONE is used.
     UnitEmpty,
-    /// A comma in a text was replaced.
+    /// A comma within a text; a written pair has a semicolon.
     TextComma,
     /// NUL bytes at the ends of texts were left out.
     TextNul,
@@ -125,6 +125,8 @@ pub enum Key {
     StampsWrapped,
     /// Time stamps are in nanoseconds.
     StampsNs,
+    /// Time stamps are greater than 1999 allows; written ones count a longer unit.
+    StampsLong,
     /// No time stamps; times come from the rate.
     StampsAbsent,
     /// Neither time stamps nor a rate: the rows have no times.
@@ -184,7 +186,7 @@ impl Key {
 }
 
 /// All keys.
-static ALL: [Key; 83] = [
+static ALL: [Key; 84] = [
     Key::Revision1991,
     Key::Revision2013,
     Key::RevisionAbsent,
@@ -246,6 +248,7 @@ static ALL: [Key; 83] = [
     Key::StampsShifted,
     Key::StampsWrapped,
     Key::StampsNs,
+    Key::StampsLong,
     Key::StampsAbsent,
     Key::TimesUnknown,
     Key::ValuesDecimal,

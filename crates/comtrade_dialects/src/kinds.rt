@@ -1,5 +1,8 @@
 //! The forms of data files.
 
+ghost use Rattle.std.specs.Prelude.{◌≡◌, ◌^◌, ◌≤◌, IfSome, IfNone};
+ghost use Rattle.comtrade_dialects.specs.Forms as spec;
+
 /// The form of a data file in 1999 or 2013.
 #[derive(Clone, Copy, PartialEq, Eq)]
 pub(crate) enum Form {
@@ -32,7 +35,9 @@ const FRONT: usize = 8;
 
 impl Form {
     /// The bytes of a value.
-    fn width(self) -> usize {
+    fn width(self) -> usize
+        ensures { result ≡ spec.width self }
+    {
         match self {
             Form::Ascii => 1,
             Form::Binary => 2,
@@ -41,7 +46,10 @@ impl Form {
     }
 
     /// The bytes of a row of k values and m bits; None if memory cannot hold one.
-    pub(crate) fn row_size(self, k: usize, m: usize) -> Option<usize> {
+    pub(crate) fn row_size(self, k: usize, m: usize) -> Option<usize>
+        ensures size { IfSome result (λ size. size ≡ spec.row_size self k m) }
+        ensures beyond { IfNone result (2 ^ 64 ≤ spec.row_size self k m) }
+    {
         let values = self.width().checked_mul(k)?;
         let words = m.div_ceil(16).checked_mul(2)?;
         values.checked_add(words)?.checked_add(FRONT)

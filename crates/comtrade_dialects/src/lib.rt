@@ -54,6 +54,7 @@ mod survey;
 mod text;
 mod text_row;
 mod wraps;
+mod zone;
 
 pub use dates::Order;
 pub use doubts::{Doubt, Doubts, doubts_of};
@@ -65,3 +66,4 @@ pub use note::{Note, Notes, Place};
 pub use pair::{Choices, Samples, repaired, unmarked};
 pub use sections::{Sections, cut};
 pub use sound::is_sound;
+pub use zone::Zone;

@@ -148,6 +148,7 @@ fn unpadded<'a, A: Allocator + Copy>(
 }
 
 /// A text of at most this many bytes. A longer one is cut; the number, if any, is appended to it.
+/// Where texts are kept, the text as it is.
 pub(crate) fn text_of<A: Allocator + Copy>(
     notes: &mut Notes<A>,
     line: u64,
@@ -156,6 +157,13 @@ pub(crate) fn text_of<A: Allocator + Copy>(
     number: Option<u64>,
 ) -> Result<Items<u8, A>, ImportFault> {
     let alloc = notes.allocator();
+    if notes.keeps_texts() {
+        let text = without_nuls(text);
+        if text.contains(&b',') {
+            notes.tell_text(Key::TextComma, Place::Cfg(line), text)?;
+        }
+        return Ok(Items::of(Vec::from_slice(alloc, text)?));
+    }
     let text = unpadded(notes, line, text)?;
     let plain = plain_of(alloc, text)?;
     let place = Place::Cfg(line);
@@ -179,13 +187,16 @@ pub(crate) fn text_of<A: Allocator + Copy>(
     }
 }
 
-/// A phase; one of more than two bytes is left out.
+/// A phase; one of more than two bytes is left out, unless texts are kept.
 pub(crate) fn phase_of<A: Allocator + Copy>(
     notes: &mut Notes<A>,
     line: u64,
     text: &[u8],
 ) -> Result<Items<u8, A>, ImportFault> {
     let alloc = notes.allocator();
+    if notes.keeps_texts() {
+        return text_of(notes, line, text, 2, None);
+    }
     let text = unpadded(notes, line, text)?;
     let plain = plain_of(alloc, text)?;
     let whole = cut_to(&plain.bytes, plain.bytes.len());

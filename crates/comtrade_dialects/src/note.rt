@@ -1,9 +1,13 @@
 //! Notes on repairs: one for each key, in the order in which the files are read.
 
+ghost use Rattle.std.specs.Prelude.{◌≡◌, []};
+
 use crate::key::Key;
 use crate::text::put_quoted;
+use crate::zone::Zone;
 use comtrade_values::{put, put_number};
 use std::alloc::{AllocError, Allocator, Global};
+use std::marker::Model;
 
 /// Where something is.
 #[derive(Clone, Copy)]
@@ -24,6 +28,14 @@ pub struct Note<A: Allocator = Global> {
     key: Key,
     count: u64,
     details: Vec<u8, A>,
+}
+
+impl<A: Allocator> Model for Note<A> {
+    ghost use Rattle.comtrade_dialects.specs.Notes.{NoteParts};
+
+    ghost Value = { NoteParts };
+
+    ghost view = { λ n. record { key = n.key; count = n.count; details = n.details.items } };
 }
 
 /// The number of bytes of details that are kept.
@@ -49,22 +61,30 @@ fn put_place<A: Allocator>(out: &mut Vec<u8, A>, place: Place) -> Result<(), All
 
 impl<A: Allocator> Note<A> {
     /// The kind of repair.
-    pub fn key(&self) -> Key {
+    pub fn key(&self) -> Key
+        ensures { result ≡ self.now.key }
+    {
         self.key
     }
 
     /// The number of repairs of this kind.
-    pub fn count(&self) -> u64 {
+    pub fn count(&self) -> u64
+        ensures { result ≡ self.now.count }
+    {
         self.count
     }
 
     /// Where they were made, and what was there before.
-    pub fn details(&self) -> &[u8] {
+    pub fn details(&self) -> &[u8]
+        ensures { result.now ≡ self.now.details }
+    {
         self.details.as_slice()
     }
 
     /// Adds the place and the piece to the details, if there is room.
-    fn add(&mut self, place: Place, piece: &[u8]) -> Result<(), AllocError> {
+    fn add(&mut self, place: Place, piece: &[u8]) -> Result<(), AllocError>
+        ensures { self.new.key ≡ self.old.key }
+    {
         self.count = self.count.saturating_add(1); // (no file has 2^64 repairs)
         if DETAILS < self.details.len() {
             return Ok(());
@@ -98,18 +118,57 @@ impl<A: Allocator> Note<A> {
     }
 }
 
-/// The notes so far; each key occurs at most once.
+/// The notes so far; each key occurs at most once. Also what a file of 1999 cannot hold.
 #[derive(Drop)]
 pub struct Notes<A: Allocator> {
     list: Vec<Note<A>, A>,
+    /// The time code of the files.
+    zone: Option<Zone>,
+    /// Texts stay as the files have them, so that notes speak only of commas in them.
+    keeps_texts: bool,
+}
+
+impl<A: Allocator> Model for Notes<A> {
+    ghost use Rattle.std.specs.Prelude.{List};
+    ghost use Rattle.comtrade_dialects.specs.Notes.{NoteParts};
+
+    ghost Value = { List NoteParts };
+
+    ghost view = { λ n. n.list.items };
+}
+
+/// Where the note with this key is, if there is one.
+fn place_of<A: Allocator>(notes: &[Note<A>], key: Key) -> Option<usize> {
+    for at in 0..notes.len() {
+        let note: &Note<A> = &notes[at];
+        if note.key() == key {
+            return Some(at);
+        }
+    }
+    None
 }
 
 impl<A: Allocator + Copy> Notes<A> {
     /// No notes.
-    pub fn new(alloc: A) -> Notes<A> {
+    pub fn new(alloc: A) -> Notes<A>
+        ensures { result ≡ [] }
+    {
         Notes {
             list: Vec::new(alloc),
+            zone: None,
+            keeps_texts: false,
         }
+    }
+
+    /// The time code of the files, if one is known.
+    pub fn zone(&self) -> Option<Zone> {
+        self.zone
+    }
+
+    pub(crate) fn set_zone(&mut self, zone: Option<Zone>)
+        ensures { self.new ≡ self.old }
+    {
+        self.zone = zone;
     }
 
     pub(crate) fn allocator(&self) -> A {
@@ -117,25 +176,32 @@ impl<A: Allocator + Copy> Notes<A> {
     }
 
     /// The notes, in the order in which their keys first occurred.
-    pub fn into_list(self) -> Vec<Note<A>, A> {
+    pub fn into_list(self) -> Vec<Note<A>, A>
+        ensures { result.items ≡ self }
+    {
         self.list
     }
 
+    /// Whether texts stay as the files have them.
+    pub(crate) fn keeps_texts(&self) -> bool {
+        self.keeps_texts
+    }
+
+    pub(crate) fn keep_texts(&mut self)
+        ensures { self.new ≡ self.old }
+    {
+        self.keeps_texts = true;
+    }
+
+    /// Whether there is a note with this key.
     pub(crate) fn has(&self, key: Key) -> bool {
-        for note in self.list.iter() {
-            if note.key == key {
-                return true;
-            }
-        }
-        false
+        place_of(&self.list, key).is_some()
     }
 
     /// Notes a repair, with what was there before.
     pub fn tell(&mut self, key: Key, place: Place, piece: &[u8]) -> Result<(), AllocError> {
-        for note in self.list.iter_mut() {
-            if note.key == key {
-                return note.add(place, piece);
-            }
+        if let Some(at) = place_of(&self.list, key) {
+            return self.list[at].add(place, piece);
         }
         let mut note = Note {
             key,

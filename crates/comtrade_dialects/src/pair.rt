@@ -18,7 +18,7 @@ use std::alloc::Allocator;
 pub enum Samples {
     /// Those that a file of 1999 holds: of 16 bits in BINARY data, of five digits in ASCII data.
     Written,
-    /// Whole numbers of 32 bits, for a record that is shown and not written.
+    /// Whole numbers of 32 bits, for a record that is shown and not written. It keeps its texts.
     Shown,
 }
 
@@ -175,6 +175,9 @@ pub fn repaired<A: Allocator + Copy>(
     dat: &[u8],
     choices: Choices,
 ) -> Result<File<A>, ImportFault> {
+    if choices.samples == Samples::Shown {
+        notes.keep_texts();
+    }
     let draft = cfg_of(alloc, notes, cfg, choices)?;
     let is_text = match draft.form {
         Some(form) => form.is_text(),

@@ -139,9 +139,12 @@ fn is_usual(line: &[u8], section: Section) -> bool {
     let Some(body) = line.strip_prefix(b"--- file type: ") else {
         return false;
     };
-    let names_kind = section != Section::Text || body.starts_with(b"DAT ASCII");
-    let is_framed = line.ends_with(b" ---");
-    is_framed && names_kind && section != Section::Bytes(None) && !has_lowercase(body)
+    let [inner @ .., b' ', b'-', b'-', b'-'] = body else {
+        return false;
+    };
+    let names_kind = section != Section::Text || inner.starts_with(b"DAT ASCII");
+    let is_plain = !has_lowercase(inner) && !inner.contains(&b'-');
+    names_kind && is_plain && section != Section::Bytes(None)
 }
 
 /// The separator at the start of a text.

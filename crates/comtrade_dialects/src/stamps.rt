@@ -28,6 +28,8 @@ pub(crate) struct Track<'a> {
     pub timemult: Decimal,
     /// The greatest stamp that the form of the data can hold.
     pub most: i128,
+    /// Stamps are written in this form, and not only shown.
+    pub is_written: bool,
     /// Whether a stamp has a point.
     pub is_pointed: bool,
     pub place: Place,

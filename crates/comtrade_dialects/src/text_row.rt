@@ -8,24 +8,42 @@ use crate::text::has_only;
 use comtrade_values::bit_of;
 use std::alloc::Allocator;
 
+/// What marks a missing value, in upper or lower case, after a sign.
+const MARKS: [&[u8]; 12] = [
+    b"nan",
+    b"inf",
+    b"infinity",
+    b"null",
+    b"none",
+    b"n/a",
+    b"na",
+    b"missing",
+    b"#n/a",
+    b"#num!",
+    b"#div/0!",
+    b"#value!",
+];
+
+/// Whether a text is a NaN with its bits, such as `nan(ind)`.
+fn is_nan_with_bits(text: &[u8]) -> bool {
+    matches!(
+        text,
+        [b'n' | b'N', b'a' | b'A', b'n' | b'N', b'(', .., b')']
+    )
+}
+
 /// Whether a text marks a missing value.
 fn is_mark(text: &[u8]) -> bool {
     let body = match text {
         [b'-' | b'+', rest @ ..] => rest,
         _ => text,
     };
-    if has_only(text, b"-*?#.") {
-        return true;
+    for mark in MARKS {
+        if body.eq_ignore_ascii_case(mark) {
+            return true;
+        }
     }
-    body.eq_ignore_ascii_case(b"nan")
-        || body.eq_ignore_ascii_case(b"inf")
-        || body.eq_ignore_ascii_case(b"infinity")
-        || body.eq_ignore_ascii_case(b"null")
-        || body.eq_ignore_ascii_case(b"none")
-        || body.eq_ignore_ascii_case(b"n/a")
-        || body.eq_ignore_ascii_case(b"na")
-        || body.eq_ignore_ascii_case(b"missing")
-        || body.starts_with(b"1.#")
+    has_only(text, b"-*?#.") || is_nan_with_bits(body) || body.starts_with(b"1.#")
 }
 
 fn push_value<A: Allocator>(

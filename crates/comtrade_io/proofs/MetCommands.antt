@@ -1,7 +1,7 @@
 -- A command that a parse met, by its name and its rows.
 use Rattle.std.proofs.Common.{◌≡◌, ℕ, Bool, true, false, Bor, get_or, arith, ltb, ltb-true, ◌<◌, List, [], Option, Some, None, option_map, codes, inl, inr, refl, ap, ap₂, ◌∙◌, sym, subst, rules}
 use Rattle.clap.specs.Words.{Row, Rule, Text, all_of, first_of, first_value, matched_of, raw_values, rows_of, rule_of, with_rule}
-use Rattle.std.specs.Prelude.{◌||◌, ◌==◌, ◌⊎◌, MatchOption}
+use Rattle.std.specs.Prelude.{◌&&◌, ◌||◌, ◌==◌, ◌⊎◌, MatchOption}
 use Rattle.clap.specs.Matches.{subcommand_name_of}
 use Rattle.clap.specs.Words.{AddsArg, AddsSubcommand, App, app_of, fault_of, is_simple, subcommand_of, with_subcommand}
 use Rattle.clap.proofs.OnLiterals.{clap_on_literals}
@@ -47,9 +47,9 @@ below m n e h = let lt : m < n = ltb-true m n h in absurd (omega arith)
 differ : (tells : Text → Bool) (s t : Text) → tells s ≡ true → tells t ≡ false → s ≡ t → ⊥
 differ tells s t is isnt e = absurd (let both : tells t ≡ true = ap tells (sym e) ∙ is in cc)
 
--- the second letter tells the commands over one pair and those over many pairs from all others
+-- the second letter tells the commands over one pair and those over many pairs from all others; of `page` and `fault`, the first
 abbrev is_view : Text → Bool
-is_view name = let c = get_or name 1 0 in c == 97 || c == 101 || c == 104 || c == 108 || c == 115
+is_view name = let c = get_or name 1 0 in (c == 97 && get_or name 0 0 == 112) || c == 101 || c == 104 || c == 108 || c == 115
 
 abbrev is_survey : Text → Bool
 is_survey name = let c = get_or name 1 0 in c == 105 || c == 118
@@ -95,57 +95,76 @@ import_isnt_compare e = below 99 105 (letter 0 _ _ (sym e)) refl
 import_isnt_extract : codes "import" ≡ codes "extract" → ⊥
 import_isnt_extract e = below 101 105 (letter 0 _ _ (sym e)) refl
 
+fault_isnt_convert : codes "fault" ≡ codes "convert" → ⊥
+fault_isnt_convert e = below 99 102 (letter 0 _ _ (sym e)) refl
+
+fault_isnt_import : codes "fault" ≡ codes "import" → ⊥
+fault_isnt_import e = below 102 105 (letter 0 _ _ e) refl
+
+fault_isnt_compare : codes "fault" ≡ codes "compare" → ⊥
+fault_isnt_compare e = below 99 102 (letter 0 _ _ (sym e)) refl
+
+fault_isnt_extract : codes "fault" ≡ codes "extract" → ⊥
+fault_isnt_extract e = below 101 102 (letter 0 _ _ (sym e)) refl
+
 -- where the names of a pair don't fit, nothing that its command asks for does
 pub no_view : (r : List Row) (v : View) → ((names : Names) → AreNames r names → ⊥) → FitsNothing (Asks r (view_name v))
 no_view r v none (asks.View w viewed) h = none viewed.names h.1.names
 no_view r v none (asks.Convert made) h = view_isnt v (codes "convert") refl (sym h.0)
 no_view r v none (asks.Import made) h = view_isnt v (codes "import") refl (sym h.0)
 no_view r v none (asks.Compare made) h = view_isnt v (codes "compare") refl (sym h.0)
+no_view r v none (asks.Fault made) h = view_isnt v (codes "fault") refl (sym h.0)
 no_view r v none (asks.Extract folder) h = view_isnt v (codes "extract") refl (sym h.0)
-no_view r v none (asks.Survey s json encoding surveyed) h = survey_isnt_view s v h.0
+no_view r v none (asks.Survey s surveyed) h = survey_isnt_view s v h.0
 
 pub no_convert : (r : List Row) → ((names : Names) (name : Bor Text) → IsNewPair r names name.now → ⊥) → FitsNothing (Asks r (codes "convert"))
 no_convert r none (asks.View w viewed) h = view_isnt w (codes "convert") refl h.0
 no_convert r none (asks.Convert made) h = none made.names made.name h.1.pair
 no_convert r none (asks.Import made) h = import_isnt_convert h.0
 no_convert r none (asks.Compare made) h = compare_isnt_convert h.0
+no_convert r none (asks.Fault made) h = fault_isnt_convert h.0
 no_convert r none (asks.Extract folder) h = extract_isnt_convert h.0
-no_convert r none (asks.Survey s json encoding surveyed) h = survey_isnt s (codes "convert") refl h.0
+no_convert r none (asks.Survey s surveyed) h = survey_isnt s (codes "convert") refl h.0
 
 pub no_import : (r : List Row) → ((names : Names) (name : Bor Text) → IsNewPair r names name.now → ⊥) → FitsNothing (Asks r (codes "import"))
 no_import r none (asks.View w viewed) h = view_isnt w (codes "import") refl h.0
 no_import r none (asks.Convert made) h = import_isnt_convert (sym h.0)
 no_import r none (asks.Import made) h = none made.names made.name h.1.pair
 no_import r none (asks.Compare made) h = import_isnt_compare (sym h.0)
+no_import r none (asks.Fault made) h = fault_isnt_import h.0
 no_import r none (asks.Extract folder) h = import_isnt_extract (sym h.0)
-no_import r none (asks.Survey s json encoding surveyed) h = survey_isnt s (codes "import") refl h.0
+no_import r none (asks.Survey s surveyed) h = survey_isnt s (codes "import") refl h.0
 
 pub no_compare : (r : List Row) → ((made : Compared) → IsCompared r made → ⊥) → FitsNothing (Asks r (codes "compare"))
 no_compare r none (asks.View w viewed) h = view_isnt w (codes "compare") refl h.0
 no_compare r none (asks.Convert made) h = compare_isnt_convert (sym h.0)
 no_compare r none (asks.Import made) h = import_isnt_compare h.0
 no_compare r none (asks.Compare made) h = none made h.1
+no_compare r none (asks.Fault made) h = fault_isnt_compare h.0
 no_compare r none (asks.Extract folder) h = extract_isnt_compare h.0
-no_compare r none (asks.Survey s json encoding surveyed) h = survey_isnt s (codes "compare") refl h.0
+no_compare r none (asks.Survey s surveyed) h = survey_isnt s (codes "compare") refl h.0
 
 pub no_extract : (r : List Row) → None ≡ first_of (codes "DIR") r → FitsNothing (Asks r (codes "extract"))
 no_extract r none (asks.View w viewed) h = view_isnt w (codes "extract") refl h.0
 no_extract r none (asks.Convert made) h = extract_isnt_convert (sym h.0)
 no_extract r none (asks.Import made) h = import_isnt_extract h.0
 no_extract r none (asks.Compare made) h = extract_isnt_compare (sym h.0)
+no_extract r none (asks.Fault made) h = fault_isnt_extract h.0
 no_extract r none (asks.Extract folder) h = absurd (let e = none ∙ h.1 in cc)
-no_extract r none (asks.Survey s json encoding surveyed) h = survey_isnt s (codes "extract") refl h.0
+no_extract r none (asks.Survey s surveyed) h = survey_isnt s (codes "extract") refl h.0
 
 -- nor where no command has the name
 pub no_command : (r : List Row) (verb : Text) → ((v : View) → view_name v ≡ verb → ⊥) → ((s : Survey) → survey_name s ≡ verb → ⊥)
-    → (codes "convert" ≡ verb → ⊥) → (codes "import" ≡ verb → ⊥) → (codes "compare" ≡ verb → ⊥) → (codes "extract" ≡ verb → ⊥)
+    → (codes "convert" ≡ verb → ⊥) → (codes "import" ≡ verb → ⊥) → (codes "compare" ≡ verb → ⊥) → (codes "fault" ≡ verb → ⊥)
+    → (codes "extract" ≡ verb → ⊥)
     → FitsNothing (Asks r verb)
-no_command r verb view survey convert importing compare extract (asks.View w viewed) h = view w h.0
-no_command r verb view survey convert importing compare extract (asks.Convert made) h = convert h.0
-no_command r verb view survey convert importing compare extract (asks.Import made) h = importing h.0
-no_command r verb view survey convert importing compare extract (asks.Compare made) h = compare h.0
-no_command r verb view survey convert importing compare extract (asks.Extract folder) h = extract h.0
-no_command r verb view survey convert importing compare extract (asks.Survey s json encoding surveyed) h = survey s h.0
+no_command r verb view survey convert importing compare fault extract (asks.View w viewed) h = view w h.0
+no_command r verb view survey convert importing compare fault extract (asks.Convert made) h = convert h.0
+no_command r verb view survey convert importing compare fault extract (asks.Import made) h = importing h.0
+no_command r verb view survey convert importing compare fault extract (asks.Compare made) h = compare h.0
+no_command r verb view survey convert importing compare fault extract (asks.Fault made) h = fault h.0
+no_command r verb view survey convert importing compare fault extract (asks.Extract folder) h = extract h.0
+no_command r verb view survey convert importing compare fault extract (asks.Survey s surveyed) h = survey s h.0
 
 -- a name and rows that are those of what a parse met
 pair : (o : Option (Text × List Row)) (verb : Text) (r : List Row) → Some verb ≡ option_map (λ p. p.0) o → Some r ≡ option_map (λ p. p.1) o → o ≡ Some (verb, r)

@@ -15,7 +15,9 @@ use Rattle.comtrade_io.specs.declared.words.Viewed.{Viewed}
 use Rattle.comtrade_io.specs.declared.words.Converted.{Converted}
 use Rattle.comtrade_io.specs.declared.words.Importing.{Importing}
 use Rattle.comtrade_io.specs.declared.words.Compared.{Compared}
+use Rattle.comtrade_io.specs.declared.words.Diagnosed.{Diagnosed}
 use Rattle.comtrade_io.specs.declared.words.Survey.{Survey}
+use Rattle.comtrade_io.specs.declared.words.Surveyed.{Surveyed}
 use Rattle.comtrade_io.specs.declared.words.Asked.{Asked}
 use Rattle.comtrade_io.specs.declared.words.Asked.TheVariants as asks
 use Rattle.comtrade_io.specs.declared.command_line.asked.Answer.{Answer}
@@ -57,10 +59,12 @@ pub record AreForm (rows : List Row) (form : Form) : Type 0 where
   pub separator : IsOption rows (codes "separator") form.separator
   pub decimal : IsOption rows (codes "decimal") form.decimal
 
--- a moment, and the channel from which angles are counted
+-- a moment, the channel from which angles are counted, the line frequency, and the channels of three phases
 pub record AreCursor (rows : List Row) (cursor : Cursor) : Type 0 where
   pub at : IsOption rows (codes "at") cursor.at
   pub reference : IsOption rows (codes "reference") cursor.reference
+  pub frequency : IsOption rows (codes "frequency") cursor.frequency
+  pub phases : IsOption rows (codes "phases") cursor.phases
 
 -- how a picture is drawn
 pub record ArePicture (rows : List Row) (picture : Picture) : Type 0 where
@@ -68,6 +72,7 @@ pub record ArePicture (rows : List Row) (picture : Picture) : Type 0 where
   pub all : IsFlag rows (codes "all") picture.all
   pub width : IsOption rows (codes "width") picture.width
   pub height : IsOption rows (codes "height") picture.height
+  pub print : IsFlag rows (codes "print") picture.print
 
 pub record IsViewed (rows : List Row) (v : Viewed) : Type 0 where
   pub names : AreNames rows v.names
@@ -77,6 +82,7 @@ pub record IsViewed (rows : List Row) (v : Viewed) : Type 0 where
   pub cursor : AreCursor rows v.cursor
   pub lines : IsOption rows (codes "LINES") v.lines
   pub json : IsFlag rows (codes "json") v.json
+  pub output : IsOption rows (codes "output") v.output
 
 -- two or three names: the pair's, its data file's where there are three, and the new pair's
 pub record IsNewPair (rows : List Row) (names : Names) (new : Text) : Type 0 where
@@ -106,10 +112,34 @@ pub record IsCompared (rows : List Row) (made : Compared) : Type 0 where
   pub by : IsOption rows (codes "by") made.by
   pub part : ArePart rows made.part
   pub picture : ArePicture rows made.picture
+  pub output : IsOption rows (codes "output") made.output
 
 -- the names that were given, in their order
 abbrev pub AreAll : List Row → List Text → Type 0
 AreAll rows names = names ≡ unwrap_or (all_of (codes "NAMES") rows) []
+
+-- records whose faults are told, and how
+pub record IsDiagnosed (rows : List Row) (made : Diagnosed) : Type 0 where
+  pub names : AreAll rows (map (λ s. s.now) made.names.items)
+  pub recursive : IsFlag rows (codes "recursive") made.recursive
+  pub long : IsFlag rows (codes "long") made.long
+  pub json : IsFlag rows (codes "json") made.json
+  pub encoding : IsOption rows (codes "encoding") made.encoding
+  pub output : IsOption rows (codes "output") made.output
+
+-- many records, those that are meant, and how they are listed
+pub record IsSurveyed (rows : List Row) (made : Surveyed) : Type 0 where
+  pub names : AreAll rows (map (λ s. s.now) made.names.items)
+  pub recursive : IsFlag rows (codes "recursive") made.recursive
+  pub from : IsOption rows (codes "from") made.from
+  pub to : IsOption rows (codes "to") made.to
+  pub station : IsOption rows (codes "station") made.station
+  pub least_current : IsOption rows (codes "min-current") made.least_current
+  pub kinds : IsOption rows (codes "type") made.kinds
+  pub json : IsFlag rows (codes "json") made.json
+  pub csv : IsFlag rows (codes "csv") made.csv
+  pub encoding : IsOption rows (codes "encoding") made.encoding
+  pub output : IsOption rows (codes "output") made.output
 
 -- what a command asks for, by the words that were given for its arguments
 abbrev pub Asks : List Row → Text → Asked → Type 0
@@ -117,9 +147,9 @@ Asks rows verb (asks.View v viewed) = (view_name v ≡ verb) × IsViewed rows vi
 Asks rows verb (asks.Convert made) = (codes "convert" ≡ verb) × IsConverted rows made
 Asks rows verb (asks.Import made) = (codes "import" ≡ verb) × IsImporting rows made
 Asks rows verb (asks.Compare made) = (codes "compare" ≡ verb) × IsCompared rows made
+Asks rows verb (asks.Fault made) = (codes "fault" ≡ verb) × IsDiagnosed rows made
 Asks rows verb (asks.Extract folder) = (codes "extract" ≡ verb) × (first_of (codes "DIR") rows ≡ Some folder.now)
-Asks rows verb (asks.Survey s json encoding names) = (survey_name s ≡ verb) × IsFlag rows (codes "json") json
-    × IsOption rows (codes "encoding") encoding × AreAll rows (map (λ s. s.now) names.items)
+Asks rows verb (asks.Survey s made) = (survey_name s ≡ verb) × IsSurveyed rows made
 
 -- the same, of a command that a parse met
 abbrev pub AsksAs : Option (Text × List Row) → Asked → Type 0

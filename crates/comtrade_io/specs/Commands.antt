@@ -32,6 +32,14 @@ repeated name = record (option name) { action = Some Append }
 abbrev pub flag : Text → Rule
 flag name = record (new_rule name) { long = Some name; action = Some SetTrue }
 
+-- -o or --output, with the file that the output goes to
+abbrev pub output : Rule
+output = record (option (codes "output")) { short = Some 111 }
+
+-- -r or --recursive
+abbrev pub recursive : Rule
+recursive = record (flag (codes "recursive")) { short = Some 114 }
+
 -- --kind, whose words are these
 abbrev pub kind_word : Bor (List (Bor (List ℕ))) → Rule
 kind_word kinds = record (word (codes "KIND")) {
@@ -51,16 +59,21 @@ with_part a = with_encoding (with_rule (with_rule (with_rule (with_rule (with_ru
 
 -- how a picture is drawn
 abbrev pub with_picture : App → App
-with_picture a = with_rule (with_rule (with_rule (with_rule a
-    (flag (codes "whole"))) (flag (codes "all"))) (option (codes "width"))) (option (codes "height"))
+with_picture a = with_rule (with_rule (with_rule (with_rule (with_rule a
+    (flag (codes "whole"))) (flag (codes "all"))) (option (codes "width"))) (option (codes "height"))) (flag (codes "print"))
 
--- a moment, and the channel from which angles are counted
+-- a moment, the channel from which angles are counted, the line frequency, and the channels of three phases
 abbrev pub with_cursor : App → App
-with_cursor a = with_rule (with_rule a (option (codes "at"))) (option (codes "reference"))
+with_cursor a = with_rule (with_rule (with_rule (with_rule a
+    (option (codes "at"))) (option (codes "reference"))) (option (codes "frequency"))) (option (codes "phases"))
 
 -- whether it is printed as JSON
 abbrev pub with_json : App → App
 with_json a = with_rule a (flag (codes "json"))
+
+-- where the output goes
+abbrev pub with_output : App → App
+with_output a = with_rule a output
 
 -- how a table of values is written
 abbrev pub with_table : App → App
@@ -76,29 +89,29 @@ over_part name = with_part (over_pair name)
 
 -- the commands that print what is in a pair
 abbrev pub show : App
-show = with_json (over_part (codes "show"))
+show = with_output (with_json (over_part (codes "show")))
 
 abbrev pub check : App
-check = with_json (over_pair (codes "check"))
+check = with_output (with_json (over_pair (codes "check")))
 
 abbrev pub csv : App
-csv = with_table (over_part (codes "csv"))
+csv = with_output (with_table (over_part (codes "csv")))
 
 abbrev pub plot : App
-plot = with_picture (over_part (codes "plot"))
+plot = with_output (with_picture (over_part (codes "plot")))
 
 abbrev pub page : App
-page = over_part (codes "page")
+page = with_output (over_part (codes "page"))
 
 abbrev pub measure : App
-measure = with_json (with_cursor (over_part (codes "measure")))
+measure = with_output (with_json (with_cursor (over_part (codes "measure"))))
 
 -- a file of detectors, and a pair
 abbrev pub detect_lines : App
 detect_lines = with_rule (new_app (codes "detect")) (word (codes "LINES"))
 
 abbrev pub detect : App
-detect = with_json (with_rule (with_rule detect_lines (word (codes "FILE"))) (free_word (codes "DAT")))
+detect = with_output (with_json (with_rule (with_rule detect_lines (word (codes "FILE"))) (free_word (codes "DAT"))))
 
 -- a command that writes a pair: with three names the second is the data file's
 abbrev pub over_new : App → App
@@ -126,16 +139,30 @@ extract = with_rule (new_app (codes "extract")) (word (codes "DIR"))
 
 -- a command over folders and files
 abbrev pub named : Text → App
-named name = with_rule (new_app name) (words (codes "NAMES"))
+named name = with_rule (with_rule (new_app name) (words (codes "NAMES"))) recursive
+
+-- which records and events are meant: those of some time, and of some stations
+abbrev pub with_filter : App → App
+with_filter a = with_rule (with_rule (with_rule a
+    (option (codes "from"))) (option (codes "to"))) (option (codes "station"))
 
 abbrev pub over_names : Text → App
-over_names name = with_encoding (with_json (named name))
+over_names name = with_output (with_encoding (with_json (with_filter (named name))))
 
+-- the records with such a current
 abbrev pub list : App
-list = over_names (codes "list")
+list = with_rule (over_names (codes "list")) (option (codes "min-current"))
 
+-- the events of some kinds, as a table of comma-separated values where that is asked for
 abbrev pub events : App
-events = over_names (codes "events")
+events = with_rule (with_rule (over_names (codes "events")) (option (codes "type"))) (flag (codes "csv"))
+
+-- the faults of many records, in a block for each where that is asked for
+abbrev pub fault_names : App
+fault_names = with_rule (named (codes "fault")) (flag (codes "long"))
+
+abbrev pub fault : App
+fault = with_output (with_encoding (with_json fault_names))
 
 -- two records
 abbrev pub compare_names : App
@@ -143,7 +170,7 @@ compare_names = with_rule (with_rule (with_rule (new_app (codes "compare"))
     (word (codes "A"))) (word (codes "B"))) (option (codes "by"))
 
 abbrev pub compare : App
-compare = with_picture (with_part compare_names)
+compare = with_output (with_picture (with_part compare_names))
 
 -- a command that wants one of those below it
 abbrev pub with_choice : App → App
@@ -166,7 +193,8 @@ views a = with_subcommand (with_subcommand (with_subcommand (with_subcommand (wi
     show.top) check.top) csv.top) plot.top) page.top
 
 abbrev pub surveys : App → App
-surveys a = with_subcommand (with_subcommand (with_subcommand a list.top) events.top) compare.top
+surveys a = with_subcommand (with_subcommand (with_subcommand (with_subcommand a
+    list.top) events.top) fault.top) compare.top
 
 abbrev pub program : Bor (List (Bor (List ℕ))) → App
 program kinds = with_subcommand (with_subcommand (with_subcommand (with_subcommand (with_subcommand (surveys (views top))

@@ -44,11 +44,16 @@ pub struct Form<'a> {
     pub decimal: Option<&'a str>,
 }
 
-/// A moment of a record, and the channel from which angles are counted there, as texts that are not parsed yet.
+/// A moment of a record, and how it is measured there, as texts that are not parsed yet.
 #[derive(Clone, Copy, Debug)]
 pub struct Cursor<'a> {
     pub at: Option<&'a str>,
+    /// The channel from which angles are counted.
     pub reference: Option<&'a str>,
+    /// The line frequency, in place of the file's.
+    pub frequency: Option<&'a str>,
+    /// The channels of the phases A, B and C.
+    pub phases: Option<&'a str>,
 }
 
 /// The commands over one pair of files that print what is in it.
@@ -81,6 +86,8 @@ pub struct Picture<'a> {
     pub width: Option<&'a str>,
     /// How high it is shown.
     pub height: Option<&'a str>,
+    /// Black lines of different dashes on white.
+    pub print: bool,
 }
 
 /// A pair of files, and what is printed of it. An option that a command doesn't have is none.
@@ -95,6 +102,8 @@ pub struct Viewed<'a> {
     pub lines: Option<&'a str>,
     /// As JSON.
     pub json: bool,
+    /// The file that is written in place of standard output.
+    pub output: Option<&'a str>,
 }
 
 /// A pair of files, and the pair that is written in its place.
@@ -130,6 +139,49 @@ pub struct Compared<'a> {
     pub by: Option<&'a str>,
     pub part: Part<'a>,
     pub picture: Picture<'a>,
+    /// The file that is written in place of standard output.
+    pub output: Option<&'a str>,
+}
+
+/// Records whose faults are told: those of these names, and those in folders of these names.
+#[derive(Debug, Drop)]
+pub struct Diagnosed<'a> {
+    pub names: Vec<&'a str>,
+    /// Also the records of folders within folders.
+    pub recursive: bool,
+    /// A block for each fault, in place of a line.
+    pub long: bool,
+    /// As JSON.
+    pub json: bool,
+    /// How names are spelled that aren't ASCII.
+    pub encoding: Option<&'a str>,
+    /// The file that is written in place of standard output.
+    pub output: Option<&'a str>,
+}
+
+/// Records of which a list is made: those of these names, and those in folders of these names; which of them are meant, and how the
+/// list is written, as texts that are not parsed yet. An option that a command doesn't have is none.
+#[derive(Debug, Drop)]
+pub struct Surveyed<'a> {
+    pub names: Vec<&'a str>,
+    /// Also the records of folders within folders.
+    pub recursive: bool,
+    /// The first instant, and the last one.
+    pub from: Option<&'a str>,
+    pub to: Option<&'a str>,
+    /// The name of the station.
+    pub station: Option<&'a str>,
+    /// The least size of the greatest current, in A.
+    pub least_current: Option<&'a str>,
+    /// Kinds of events.
+    pub kinds: Option<&'a str>,
+    /// As JSON, or as comma-separated values.
+    pub json: bool,
+    pub csv: bool,
+    /// How names are spelled that aren't ASCII.
+    pub encoding: Option<&'a str>,
+    /// The file that is written in place of standard output.
+    pub output: Option<&'a str>,
 }
 
 /// The commands over many pairs.
@@ -152,10 +204,12 @@ pub enum Asked<'a> {
     Import(Importing<'a>),
     /// Two records in one picture.
     Compare(Compared<'a>),
+    /// The faults of many records.
+    Fault(Diagnosed<'a>),
     /// The pairs that a replay printed, into a folder.
     Extract(&'a str),
-    /// What is in many pairs: those of these names, and those in folders of these names; as JSON where that is asked for.
-    Survey(Survey, bool, Option<&'a str>, Vec<&'a str>),
+    /// What is in many pairs.
+    Survey(Survey, Surveyed<'a>),
 }
 
 /// The command over one pair that is called so.

@@ -125,7 +125,7 @@ fn put_picture<A: Allocator + Copy>(
     let second = if has_one { first.below(160) } else { first };
     let end = if has_other { second.below(160) } else { second };
     put_tag(sheet, options.picture, end);
-    put_compare_head(sheet, beside);
+    put_compare_head(sheet, beside, options.picture.is_for_print);
     put_pairs(sheet, beside, places.panels);
     put_contacts(sheet, beside.one, &bars, places.contacts);
     put_contacts(sheet, beside.other, &other_bars, places.others);

@@ -2,7 +2,7 @@
 
 use crate::compare::By;
 use crate::differing::{Beside, is_exact};
-use crate::head::{STYLE, put_facts, put_station};
+use crate::head::{put_facts, put_station, style_of};
 use crate::instant::{put_duration, put_range};
 use crate::layers::Layer;
 use crate::layout::{Chart, NOWHERE, panel_count};
@@ -84,7 +84,11 @@ fn put_method<A: Allocator>(sheet: &mut Sheet<A>, beside: &Beside<'_, A>, y: Dow
 }
 
 /// The head of a picture of two records, after its tag.
-pub(crate) fn put_compare_head<A: Allocator>(sheet: &mut Sheet<A>, beside: &Beside<'_, A>) {
+pub(crate) fn put_compare_head<A: Allocator>(
+    sheet: &mut Sheet<A>,
+    beside: &Beside<'_, A>,
+    is_for_print: bool,
+) {
     sheet.text("<title id=\"title\">");
     let (one, other) = (beside.one.file, beside.other.file);
     sheet.text("A: ");
@@ -93,7 +97,7 @@ pub(crate) fn put_compare_head<A: Allocator>(sheet: &mut Sheet<A>, beside: &Besi
     put_station(sheet, &other.head);
     sheet.text("</title>\n");
     put_description(sheet, beside);
-    sheet.text(STYLE);
+    sheet.text(style_of(is_for_print));
     sheet.text("<rect class=\"p\" width=\"100%\" height=\"100%\" fill=\"#ffffff\"/>\n");
     put_record(sheet, beside.one, "A", Down::at(230));
     put_record(sheet, beside.other, "B", Down::at(620));

@@ -11,13 +11,27 @@ use comtrade_format::{File, Head};
 use std::alloc::Allocator;
 
 /// Colours for dark pages, and line styles for print.
-pub(crate) const STYLE: &str = "<style>@media (prefers-color-scheme:dark){\
+const STYLE: &str = "<style>@media (prefers-color-scheme:dark){\
 svg{fill:#e8eaed}.p{fill:#14171c}.f{fill:#a9b0b8}.g{stroke:#2c323a}.e{stroke:#7b838d}.t{stroke:#e8eaed}\
 .x{fill:#3d3a33}.k{fill:#4e7a5b}.o{fill:#7fd492}.q{stroke:#f0b429}\
 .a{stroke:#ff4038}.b{stroke:#ffcc38}.c{stroke:#0089ff}.n{stroke:#f0f2ef}\
 .u{stroke:#008c82}.v{stroke:#c0acff}.w{stroke:#a38d6a}.z{stroke:#f98abc}}\
 @media print{.b{stroke-dasharray:8 2}.c{stroke-dasharray:3 2}.n{stroke-dasharray:8 2 2 2}\
 .v{stroke-dasharray:8 2}.w{stroke-dasharray:3 2}.z{stroke-dasharray:8 2 2 2}}</style>\n";
+
+/// Black lines of different dashes for paper, also on a dark page and without a browser. A second
+/// record's traces have dashes of their own.
+const PRINT_STYLE: &str =
+    "<style>svg{fill:#000000}.f{fill:#000000}.g{stroke:#c8c8c8}.x{fill:#e0e0e0}\
+.k{fill:#b0b0b0}.o{fill:#404040}.q{stroke:#000000}\
+.a,.b,.c,.n,.u,.v,.w,.z{stroke:#000000}\
+.b{stroke-dasharray:9 3}.c{stroke-dasharray:3 2}.n{stroke-dasharray:9 3 2 3}\
+.w{stroke-dasharray:2 4}.z{stroke-dasharray:9 3 2 3}.u,.v{stroke-opacity:1}</style>\n";
+
+/// The style of a picture on a screen, or for paper.
+pub(crate) fn style_of(is_for_print: bool) -> &'static str {
+    if is_for_print { PRINT_STYLE } else { STYLE }
+}
 
 /// The tag of a picture of this many pixels. It keeps its aspect ratio if only its width is given.
 pub(crate) fn put_tag<A: Allocator>(sheet: &mut Sheet<A>, options: PlotOptions, height: Down) {
@@ -112,13 +126,17 @@ pub(crate) fn put_facts<A: Allocator>(sheet: &mut Sheet<A>, file: &File<A>, y: D
 }
 
 /// The head of a picture, after its tag.
-pub(crate) fn put_head<A: Allocator>(sheet: &mut Sheet<A>, chart: &Chart<'_, A>) {
+pub(crate) fn put_head<A: Allocator>(
+    sheet: &mut Sheet<A>,
+    chart: &Chart<'_, A>,
+    is_for_print: bool,
+) {
     let file = chart.file;
     sheet.text("<title id=\"title\">");
     put_station(sheet, &file.head);
     sheet.text("</title>\n");
     put_description(sheet, chart);
-    sheet.text(STYLE);
+    sheet.text(style_of(is_for_print));
     sheet.text("<rect class=\"p\" width=\"100%\" height=\"100%\" fill=\"#ffffff\"/>\n");
     sheet.begin_text(LEFT, Down::at(230), " font-size=\"15\"");
     put_station(sheet, &file.head);

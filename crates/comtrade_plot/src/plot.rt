@@ -13,12 +13,13 @@ use comtrade_io::ToolFault;
 use std::alloc::Allocator;
 use std::io::Write;
 
-/// How a picture is drawn: the whole record; a bar for each status channel; its width and height in
-/// pixels.
+/// How a picture is drawn: the whole record; a bar for each status channel; in black for paper; its
+/// width and height in pixels.
 #[derive(Clone, Copy, Debug, Default, PartialEq, Eq)]
 pub struct PlotOptions {
     pub is_whole: bool,
     pub shows_all: bool,
+    pub is_for_print: bool,
     pub width: Option<u32>,
     pub height: Option<u32>,
 }
@@ -88,7 +89,7 @@ pub fn plot_over<A: Allocator + Copy, W: Write>(
     let places = places_in(&chart, &bars, choice.is_part);
     let mut sheet = Sheet::new(alloc);
     put_tag(&mut sheet, options, places.end.below(640));
-    put_head(&mut sheet, &chart);
+    put_head(&mut sheet, &chart, options.is_for_print);
     put_panels(&mut sheet, &chart, places.panels);
     put_contacts(&mut sheet, &chart, &bars, places.contacts);
     put_scales(&mut sheet, &chart, places);

@@ -367,10 +367,24 @@ function line(x1, y1, x2, y2, colour, dash = []) {
   pen.setLineDash([]);
 }
 
+/** The names of a panel's traces above it, each after a piece of its line, as far as there is room. */
+function nameTraces(panel, x) {
+  for (const channel of panel.channels) {
+    const width = pen.measureText(channel.id).width;
+    if (x + 22 + width > LEFT + plot.width) return;
+    pen.fillStyle = colours()[channel.hue];
+    pen.fillRect(x, panel.top - 11, 16, 3);
+    text(channel.id, x + 20, panel.top - 6);
+    x += 36 + width;
+  }
+}
+
 function drawPanel(panel) {
   const first = panel.channels[0], edges = edgesOf(panel);
   const side = { P: ", primary", S: ", secondary" }[state.side === "file" ? first.side : state.side];
-  text(first.unit + side + (first.component ? ", " + first.component : ""), LEFT, panel.top - 6, "left", colours().faint);
+  const heading = first.unit + side + (first.component ? ", " + first.component : "");
+  text(heading, LEFT, panel.top - 6, "left", colours().faint);
+  nameTraces(panel, LEFT + pen.measureText(heading).width + 20);
   if (edges) {
     const least = roundStep((edges.high - edges.low) / 5);
     for (const value of ticks(edges.low, edges.high, 5)) {
@@ -421,9 +435,17 @@ function drawContacts() {
   });
 }
 
-/** The contacts' names, on top of their bars. */
+/** The contacts' names, with an edge in the colour of the page, so that they can be read on their bars. */
 function nameContacts() {
-  plot.bars.forEach((contact, i) => text(contact.id, LEFT + 4, plot.barsTop + i * BAR + 12));
+  plot.bars.forEach((contact, i) => {
+    const y = plot.barsTop + i * BAR + 12;
+    pen.strokeStyle = colours().page;
+    pen.lineWidth = 4;
+    pen.lineJoin = "round";
+    pen.textAlign = "left";
+    pen.strokeText(contact.id, LEFT + 4, y);
+    text(contact.id, LEFT + 4, y);
+  });
 }
 
 function drawTimes(bottom) {
@@ -459,7 +481,7 @@ function draw() {
   for (const panel of plot.panels) drawPanel(panel);
   nameContacts();
   if (head.isTimed) drawUpright(0, colours().text, [4, 3], "", bottom);
-  state.cursors.forEach((row, i) => drawUpright(times[row], [colours().c, colours().a][i], [], "AB"[i], bottom));
+  state.cursors.forEach((row, i) => drawUpright(times[row], colours().text, [[], [7, 3]][i], "AB"[i], bottom));
 }
 
 // The tables
@@ -485,13 +507,16 @@ function buildTables() {
   for (const channel of channels) {
     const row = add(body, "tr");
     addBox(row, channel);
-    channel.name = add(row, "td", channel.id + (channel.phase ? " (" + channel.phase + ")" : ""));
+    const words = channel.id + (channel.phase ? " (" + channel.phase + ")" : "");
+    const name = add(row, "td", "", { title: words });
+    channel.mark = add(name, "span", "\u25ac ", { "aria-hidden": "true" });
+    add(name, "span", words);
     channel.cells = [0, 1, 2, 3, 4].map(() => add(row, "td"));
   }
   for (const contact of contacts) {
     const row = add(body, "tr");
     addBox(row, contact);
-    add(row, "td", contact.id);
+    add(row, "td", contact.id, { title: contact.id });
     contact.cells = [0, 1].map(() => add(row, "td"));
   }
 }
@@ -515,7 +540,7 @@ function fillTables() {
       one === null || other === null ? "" : quantity(other - one, channel.unit), found ? quantity(found.rms, channel.unit) : "",
       hasAngle ? quantity(found.size, channel.unit) + " \u2220 " + digits(Math.round(angle * 10) / 10) + "\u00b0" : ""];
     channel.cells.forEach((cell, i) => { cell.textContent = words[i]; });
-    channel.name.style.color = colours()[channel.hue];
+    channel.mark.style.color = colours()[channel.hue];
   }
   for (const contact of contacts) contact.cells.forEach((cell, i) => { cell.textContent = bitAt(contact, state.cursors[i]); });
   const gap = times[b] - times[a], cycles = digits(gap / cycle);

@@ -1,5 +1,6 @@
 pub mod Texts
 pub mod Spellings
-pub mod Rows
-pub mod Angles
+pub mod Facts
+pub mod JsonNumbers
 pub mod Stretches
+pub mod RmsValues

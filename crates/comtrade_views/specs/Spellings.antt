@@ -1,5 +1,5 @@
 -- How tables of values are written.
-use Rattle.std.specs.Prelude.{ℕ, ◌==◌, ◌&&◌, ◌||◌, not, nat_le, Bool, true, false, if◌then◌else◌, List, [], ◌∷◌}
+use Rattle.std.specs.Prelude.{ℕ, ◌==◌, ◌&&◌, ◌||◌, not, nat_le, Bool, if◌then◌else◌, List, [], ◌∷◌}
 use Rattle.comtrade_values.specs.Spelling.{Number}
 use Rattle.dfr_channels.specs.Parts.{AnalogParts}
 use Rattle.dfr_channels.specs.declared.channel.Side.{Side}
@@ -7,12 +7,6 @@ use Rattle.dfr_channels.specs.declared.channel.Side.TheVariants.{Primary, Second
 
 abbrev pub is_digit : ℕ → Bool
 is_digit b = nat_le 48 b && nat_le b 57
-
--- a cell that stands in JSON as it is: a number or an array
-abbrev pub is_number : List ℕ → Bool
-is_number [] = false
-is_number (b ∷ []) = is_digit b || b == 91
-is_number (b ∷ c ∷ rest) = if b == 45 then is_digit c else is_digit b || b == 91
 
 -- a letter or a digit of ASCII
 abbrev pub is_alphanumeric : ℕ → Bool

@@ -7,10 +7,6 @@ use Rattle.comtrade_io.specs.Safe.{safe}
 abbrev pub cell : List ℕ → List ℕ
 cell text = text ++ 31 ∷ []
 
--- a text of the file; one of more than 64 bytes is cut to its first 64 and three dots
-abbrev pub short : List ℕ → List ℕ
-short text = if nat_lt 64 (length text) then safe (take 64 text) ++ codes "..." else safe text
-
 -- nanoseconds as microseconds, to the nearest
 abbrev pub micros : ℤ → ℕ
 micros nanos = (unsigned_abs nanos + 500) / 1000

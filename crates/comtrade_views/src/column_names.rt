@@ -10,7 +10,7 @@ use std::collections::BTreeMap;
 use std::io::Write;
 
 /// The outcome of a write to a table.
-fn outcome_of(written: Result<(), Error>) -> Result<(), ToolFault> {
+pub(crate) fn outcome_of(written: Result<(), Error>) -> Result<(), ToolFault> {
     let Err(error) = written else {
         return Ok(());
     };
@@ -21,7 +21,7 @@ fn outcome_of(written: Result<(), Error>) -> Result<(), ToolFault> {
 }
 
 /// Writes a cell and clears it.
-fn end_cell<A: Allocator, W: Write>(
+pub(crate) fn end_cell<A: Allocator, W: Write>(
     table: &mut Writer<&mut W>,
     cell: &mut Vec<u8, A>,
 ) -> Result<(), ToolFault> {
@@ -31,7 +31,10 @@ fn end_cell<A: Allocator, W: Write>(
 }
 
 /// A text from the file, after an apostrophe where a spreadsheet would read a formula.
-fn put_name_of<A: Allocator>(cell: &mut Vec<u8, A>, id: &[u8]) -> Result<(), AllocError> {
+pub(crate) fn put_name_of<A: Allocator>(
+    cell: &mut Vec<u8, A>,
+    id: &[u8],
+) -> Result<(), AllocError> {
     if let Some(b'=' | b'+' | b'-' | b'@') = id.first() {
         put(cell, "'")?;
     }

@@ -13,9 +13,17 @@ const ONE: &str = "instant\x1Fms since trigger\x1Fsince before\x1Fwhat\x1F\n";
 /// The columns of the table of several records.
 const MANY: &str = "instant\x1Fms since trigger\x1Fsince before\x1Frecord\x1Fwhat\x1F\n";
 
-/// Nanoseconds as microseconds, to the nearest.
-fn micros_of(nanos: i128) -> i128 {
+/// An instant in microseconds, from nanoseconds, to the nearest.
+pub(crate) fn micros_at(nanos: i128) -> i128 {
     nanos.div_euclid(1000) + (500 <= nanos.rem_euclid(1000)) as i128
+}
+
+/// How long an instant is after the one before it, if both are known.
+pub(crate) fn since_before(before: Option<i128>, at: Option<i128>) -> Option<i128> {
+    match (before, at) {
+        (Some(before), Some(at)) => at.checked_sub(before),
+        _ => None,
+    }
 }
 
 /// A line of the table: the instant, how long it is after the trigger and after the event before
@@ -27,16 +35,12 @@ fn put_event<A: Allocator>(
     names: &[String],
 ) -> Result<(), AllocError> {
     match (event.at, event.row) {
-        (Some(nanos), _) => put_instant(table, micros_of(nanos))?,
+        (Some(nanos), _) => put_instant(table, micros_at(nanos))?,
         (None, Some(row)) => put_ordinal(table, "row ", row)?,
         (None, None) => {}
     }
     end_cell(table)?;
-    let since_before = match (before, event.at) {
-        (Some(before), Some(at)) => at.checked_sub(before),
-        _ => None,
-    };
-    for nanos in [event.since, since_before] {
+    for nanos in [event.since, since_before(before, event.at)] {
         if let Some(nanos) = nanos {
             put_millis(table, nanos)?;
         }
@@ -54,7 +58,7 @@ fn put_event<A: Allocator>(
 }
 
 /// The table of the events of the records with these names, below a line of column names.
-pub(crate) fn event_table<A: Allocator + Copy>(
+fn event_table<A: Allocator + Copy>(
     alloc: A,
     events: &[Event<A>],
     names: &[String],

@@ -11,9 +11,21 @@ use comtrade_io::{ToolFault, put_safe};
 use comtrade_values::{put, put_count, put_with};
 use std::alloc::{AllocError, Allocator, Global};
 
+/// What an event is.
+#[derive(Clone, Copy, Debug, PartialEq, Eq)]
+pub(crate) enum EventKind {
+    /// The trigger of a record.
+    Trigger,
+    /// A change of a status channel.
+    Change,
+    /// A run of rows with missing readings, or changes that a file of events lacks.
+    Gap,
+}
+
 /// An event, with its text.
 #[derive(Debug, Drop)]
 pub struct Event<A: Allocator = Global> {
+    pub(crate) kind: EventKind,
     /// Nanoseconds since 1970-01-01 00:00:00; None where the time of the row is not known.
     pub(crate) at: Option<i128>,
     /// Nanoseconds since the trigger of the record.
@@ -39,7 +51,8 @@ struct Source<'a, A: Allocator> {
 }
 
 /// An event at a row, with the text that follows.
-fn event_at<A: Allocator + Copy>(source: &Source<'_, A>, row: usize) -> Event<A>
+fn event_at<A: Allocator + Copy>(source: &Source<'_, A>, kind: EventKind, row: usize) -> Event<A>
+    ensures kind { result.kind ≡ kind }
     ensures place { result.record ≡ source.now.record }
     ensures text { result.text.items ≡ [] }
 {
@@ -51,6 +64,7 @@ fn event_at<A: Allocator + Copy>(source: &Source<'_, A>, row: usize) -> Event<A>
         None => (None, None),
     };
     Event {
+        kind,
         at,
         since,
         record: source.record,
@@ -84,7 +98,7 @@ fn add_changes<A: Allocator + Copy>(
     let contacts = file.head.status.items();
     for change in events_of(source.alloc, file.rows.items(), contacts.len())?.iter() {
         if let Some(contact) = contacts.get(change.channel) {
-            let mut event = event_at(source, change.row);
+            let mut event = event_at(source, EventKind::Change, change.row);
             put_change(
                 &mut event.text,
                 change.channel,
@@ -117,7 +131,7 @@ fn add_outages<A: Allocator + Copy>(
 ) -> Result<(), ToolFault> {
     let file = source.file;
     for outage in outages_of(source.alloc, file.rows.items())?.iter() {
-        let mut event = event_at(source, outage.first);
+        let mut event = event_at(source, EventKind::Gap, outage.first);
         put_outage(&mut event.text, *outage)?;
         events.push(event)?;
     }
@@ -143,6 +157,7 @@ fn add_trigger<A: Allocator + Copy>(
     let mut text = Vec::new(source.alloc);
     put_trigger(&mut text, source.file)?;
     events.push(Event {
+        kind: EventKind::Trigger,
         at: Some(source.trigger as i128 * 1000),
         since: Some(0),
         record: source.record,

@@ -1,66 +1,57 @@
 //! What a pair of files contains, as JSON.
 
+use crate::channel_json::{AnalogMembers, StatusMembers, analog_members, status_members};
 use crate::instant::put_instant;
-use crate::json::{put_rows_json, put_text};
-use crate::number::put_decimal;
-use crate::show::Clock;
-use crate::show_analog::{analog_table, surveys_in};
-use crate::show_status::contact_table;
+use crate::json::{plain_text_of, put_json, text_of};
+use crate::json_number::{JsonNumber, number_json};
 use comtrade_format::{File, Head};
 use comtrade_io::{ToolFault, kind_name};
-use comtrade_values::{put, put_with};
+use comtrade_values::Memory;
+use serde::Serialize;
 use std::alloc::{AllocError, Allocator, Global};
 
-const ANALOG: &str =
-    "n# id phase component unit a# b# range ratio side least# least_ms# greatest# greatest_ms# missing#";
+/// A rate, and the number of its last row.
+#[derive(Drop, Serialize)]
+struct RateMembers {
+    rate: JsonNumber,
+    last_row: u64,
+}
 
-const STATUS: &str = "n# id phase component normal# first# changes";
+/// What a pair contains.
+#[derive(Drop, Serialize)]
+struct Members {
+    station: String,
+    device: String,
+    first_row: String,
+    trigger: String,
+    frequency: JsonNumber,
+    rates: Vec<RateMembers>,
+    data: String,
+    rows: u64,
+    stamp_us: JsonNumber,
+    analog: Vec<AnalogMembers>,
+    status: Vec<StatusMembers>,
+}
 
-/// A key and an instant.
-fn put_when(alloc: Global, out: &mut Vec<u8>, key: &str, instant: i64) -> Result<(), AllocError> {
-    put(out, key)?;
+/// An instant as the value of a member.
+pub(crate) fn instant_text(alloc: Global, instant: i128) -> Result<String, AllocError> {
     let mut text = Vec::new(alloc);
-    put_instant(&mut text, instant as i128)?;
-    put_text(alloc, out, &text)
+    put_instant(&mut text, instant)?;
+    plain_text_of(alloc, &text)
 }
 
 /// The rates, as the file gives them: none where the stamps give the times of rows.
-fn put_rates<A: Allocator>(out: &mut Vec<u8>, head: &Head<A>) -> Result<(), AllocError> {
-    put(out, ",\"rates\":[")?;
-    let mut before = "{\"rate\":";
-    for rate in head.rates.items() {
-        if head.nrates != 0 {
-            put(out, before)?;
-            put_decimal(out, rate.samp)?;
-            put_with(out, ",\"last_row\":", rate.endsamp)?;
-            put(out, "}")?;
-            before = ",{\"rate\":";
+fn rates_of<A: Allocator>(alloc: Global, head: &Head<A>) -> Result<Vec<RateMembers>, Memory> {
+    let mut list = Vec::new(alloc);
+    if head.nrates != 0 {
+        for rate in head.rates.items() {
+            list.push(RateMembers {
+                rate: number_json(alloc, rate.samp)?,
+                last_row: rate.endsamp,
+            })?;
         }
     }
-    put(out, "]")
-}
-
-/// The configuration file's values other than its channels.
-fn put_head<A: Allocator>(
-    alloc: Global,
-    out: &mut Vec<u8>,
-    file: &File<A>,
-) -> Result<(), AllocError> {
-    let head = &file.head;
-    put(out, "{\"station\":")?;
-    put_text(alloc, out, head.station.items())?;
-    put(out, ",\"device\":")?;
-    put_text(alloc, out, head.device.items())?;
-    put_when(alloc, out, ",\"first_row\":", head.first)?;
-    put_when(alloc, out, ",\"trigger\":", head.trigger)?;
-    put(out, ",\"frequency\":")?;
-    put_decimal(out, head.line_freq)?;
-    put_rates(out, head)?;
-    put(out, ",\"data\":")?;
-    put_text(alloc, out, kind_name(head.kind).as_bytes())?;
-    put_with(out, ",\"rows\":", file.rows.items().len() as u64)?;
-    put(out, ",\"stamp_us\":")?;
-    put_decimal(out, head.timemult)
+    Ok(list)
 }
 
 /// What a file contains, as a JSON object. The rows were taken at these times, in nanoseconds since
@@ -71,14 +62,21 @@ pub fn show_json<A: Allocator + Copy>(
     file: &File<A>,
     times: &[Option<i64>],
 ) -> Result<Vec<u8>, ToolFault> {
-    let clock = Clock { times, trigger: 0 };
+    let head = &file.head;
+    let members = Members {
+        station: text_of(alloc, head.station.items())?,
+        device: text_of(alloc, head.device.items())?,
+        first_row: instant_text(alloc, head.first as i128)?,
+        trigger: instant_text(alloc, head.trigger as i128)?,
+        frequency: number_json(alloc, head.line_freq)?,
+        rates: rates_of(alloc, head)?,
+        data: String::from_str(alloc, kind_name(head.kind))?,
+        rows: file.rows.items().len() as u64,
+        stamp_us: number_json(alloc, head.timemult)?,
+        analog: analog_members(alloc, lists, file, times)?,
+        status: status_members(alloc, lists, file, times)?,
+    };
     let mut out = Vec::new(alloc);
-    put_head(alloc, &mut out, file)?;
-    let analog = analog_table(lists, file, clock, &surveys_in(lists, file)?)?;
-    put_rows_json(alloc, &mut out, ",\"analog\":", ANALOG, &analog)?;
-    drop(analog);
-    let status = contact_table(lists, file, clock)?;
-    put_rows_json(alloc, &mut out, ",\"status\":", STATUS, &status)?;
-    put(&mut out, "}\n")?;
+    put_json(alloc, &mut out, &members)?;
     Ok(out)
 }

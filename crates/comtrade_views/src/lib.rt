@@ -2,17 +2,25 @@
 //! contains, its rows as CSV, and what is measured over its cycles.
 #![tactic(auto)]
 
+mod channel_json;
 mod column_names;
 mod comma_separated;
 mod currents;
 mod cycles;
+mod event_csv;
+mod event_file;
 mod event_table;
 mod events;
+mod facts;
+mod faults;
+mod filter;
 mod float;
 mod head_json;
 mod instant;
 mod json;
+mod json_number;
 mod measure;
+mod measure_frequency;
 mod measure_json;
 mod measure_note;
 mod measure_range;
@@ -34,11 +42,17 @@ mod value_cells;
 
 pub use comma_separated::csv_over;
 pub use cycles::{Around, MeasureFault, rms_around};
+pub use event_csv::put_events_csv;
+pub use event_file::{EVENT_HEAD, EventLine, event_in_line};
 pub use event_table::put_events;
 pub use events::{Event, add_events, sort_events};
+pub use faults::{
+    Faults, RecordFaults, faults_of, put_fault_blocks, put_fault_lines, put_faults_json,
+};
+pub use filter::{Filter, FilterFault, chosen_events};
 pub use head_json::show_json;
-pub use json::put_text;
-pub use measure::{Measuring, measure_text};
+pub use json::{put_json, text_of};
+pub use measure::{Choice, LineFrequency, Measuring, measure_text};
 pub use measure_range::put_outside;
 pub use part::{Cut, PartFault, is_whole, part_of, spell_for_views, spell_in_utf8};
 pub use show::show_over;

@@ -1,7 +1,8 @@
 //! What is measured in a record, as JSON.
 
-use crate::cycles::{Components, Measured, Phasor, components_of, measured_at, threes_of};
+use crate::cycles::{Components, Measured, Phasor, components_of, measured_at};
 use crate::json::{put_json, text_of};
+use crate::json_number::{JsonNumber, number_json};
 use crate::measure::Measures;
 use crate::measure_tables::Found;
 use crate::number::ordinal;
@@ -22,6 +23,7 @@ struct ChannelMembers {
     magnitude: Option<f64>,
     angle: Option<f64>,
     dc: Option<f64>,
+    dc_fall: Option<f64>,
     peak: Option<f64>,
     peak_ms: Option<f64>,
     residual: Option<f64>,
@@ -58,6 +60,9 @@ struct Members {
     first_row: u128,
     last_row: u128,
     cycles: u64,
+    frequency: JsonNumber,
+    frequency_measured: Option<JsonNumber>,
+    frequency_channel: Option<u128>,
     reference: Option<u128>,
     channels: Vec<ChannelMembers>,
     harmonics: Vec<HarmonicMembers>,
@@ -84,6 +89,7 @@ fn unmeasured<A: Allocator>(
         magnitude: None,
         angle: None,
         dc: None,
+        dc_fall: None,
         peak: None,
         peak_ms: None,
         residual: None,
@@ -107,6 +113,7 @@ fn measured_members<A: Allocator>(
         magnitude: Some(measured.phasor.magnitude()),
         angle,
         dc: Some(measured.dc),
+        dc_fall: measured.fall,
         peak: Some(measured.peak),
         peak_ms: shown.millis_at(measured.peak_row),
         residual: Some(measured.residual),
@@ -197,15 +204,14 @@ fn id_at<A: Allocator>(
     }
 }
 
-fn sequences_of<A: Allocator + Copy>(
+fn sequences_of<A: Allocator>(
     alloc: Global,
-    lists: A,
     found: &Found<'_, A>,
-) -> Result<Vec<SequenceMembers>, Memory> {
+) -> Result<Vec<SequenceMembers>, AllocError> {
     let file = found.file;
     let channels = file.head.analog.items();
     let mut list = Vec::new(alloc);
-    for three in threes_of(lists, channels)?.iter() {
+    for three in found.threes {
         let members = SequenceMembers {
             a: id_at(alloc, channels, three.a)?,
             b: id_at(alloc, channels, three.b)?,
@@ -230,21 +236,31 @@ fn sequences_of<A: Allocator + Copy>(
 }
 
 /// What was measured, as a JSON object in a line.
-pub(crate) fn put_measures_json<A: Allocator + Copy>(
+pub(crate) fn put_measures_json<A: Allocator>(
     alloc: Global,
-    lists: A,
     out: &mut Vec<u8>,
-    measures: Measures,
+    measures: Measures<'_>,
     found: &Found<'_, A>,
 ) -> Result<(), Memory> {
+    let file = found.file;
+    let taken = measures.taken;
     let members = Members {
         first_row: found.shown.number(measures.window.from),
         last_row: found.shown.number(measures.window.last()),
         cycles: measures.window.cycles,
+        frequency: number_json(alloc, file.head.line_freq)?,
+        frequency_measured: match &taken.measured {
+            Some(signal) => Some(number_json(alloc, signal.hertz)?),
+            None => None,
+        },
+        frequency_channel: match &taken.measured {
+            Some(signal) => Some(ordinal(signal.place)),
+            None => None,
+        },
         reference: measures.reference.map(ordinal),
         channels: channels_of(alloc, found)?,
         harmonics: harmonics_of(alloc, found)?,
-        sequences: sequences_of(alloc, lists, found)?,
+        sequences: sequences_of(alloc, found)?,
     };
     Ok(put_json(alloc, out, &members)?)
 }

@@ -2,11 +2,12 @@
 
 use crate::cycles::{Measured, measured_at};
 use crate::float::put_places;
+use crate::measure_frequency::{Taken, put_other};
 use crate::measure_tables::Found;
 use crate::number::put_decimal;
 use comtrade_format::File;
 use comtrade_io::put_safe;
-use comtrade_values::put;
+use comtrade_values::{Memory, put};
 use std::alloc::{AllocError, Allocator};
 
 /// The least share of the magnitude that is noted.
@@ -61,8 +62,51 @@ fn greatest_share<A: Allocator>(found: &Found<'_, A>) -> Option<(usize, f64)> {
     greatest
 }
 
+/// Whether the dc part of a channel is fitted as a line.
+fn has_line<A: Allocator>(found: &Found<'_, A>, place: usize) -> bool {
+    match measured_at(found.measures, place) {
+        Some(measured) => measured.fall.is_some(),
+        None => false,
+    }
+}
+
+/// Adds the id of a channel after a text, if its dc part is fitted as a line; what comes before the
+/// next one.
+fn put_decay<A: Allocator, B: Allocator>(
+    out: &mut Vec<u8, B>,
+    found: &Found<'_, A>,
+    place: usize,
+    id: &[u8],
+    before: &'static str,
+) -> Result<&'static str, AllocError> {
+    if !has_line(found, place) {
+        return Ok(before);
+    }
+    put(out, before)?;
+    put_safe(out, id)?;
+    Ok(", ")
+}
+
+/// A line on the channels whose dc part is fitted as a line, if there are any.
+fn put_decays<A: Allocator, B: Allocator>(
+    out: &mut Vec<u8, B>,
+    found: &Found<'_, A>,
+) -> Result<(), AllocError> {
+    let file = found.file;
+    let mut before = "\nnote: the dc part decays and is fitted as a straight line (";
+    for (place, channel) in file.head.analog.items().iter().enumerate() {
+        before = put_decay(out, found, place, channel.id.items(), before)?;
+    }
+    if before != ", " {
+        return Ok(());
+    }
+    put(out, "); if the frequency is not ")?;
+    put_decimal(out, file.head.line_freq)?;
+    put(out, " Hz, their phasors are off\n")
+}
+
 /// A line on the greatest residual, if it is above 2 percent of the channel's magnitude.
-pub(crate) fn put_note<A: Allocator, B: Allocator>(
+fn put_residual<A: Allocator, B: Allocator>(
     out: &mut Vec<u8, B>,
     found: &Found<'_, A>,
 ) -> Result<(), AllocError> {
@@ -80,4 +124,18 @@ pub(crate) fn put_note<A: Allocator, B: Allocator>(
     put(out, "): the frequency is not ")?;
     put_decimal(out, file.head.line_freq)?;
     put(out, " Hz, or the window has a transient\n")
+}
+
+/// The notes on another frequency of the signal, on what a fit leaves of signals, and on dc parts
+/// that decay.
+pub(crate) fn put_note<A: Allocator + Copy, B: Allocator>(
+    lists: A,
+    out: &mut Vec<u8, B>,
+    found: &Found<'_, A>,
+    taken: &Taken,
+) -> Result<(), Memory> {
+    put_other(lists, out, found.file, taken)?;
+    put_residual(out, found)?;
+    put_decays(out, found)?;
+    Ok(())
 }

@@ -1,6 +1,6 @@
 //! The tables of what is measured over whole cycles: channels, harmonics.
 
-use crate::cycles::{Measured, Phasor, measured_at};
+use crate::cycles::{Measured, Phasor, Three, measured_at};
 use crate::float::{put_float, put_places};
 use crate::number::put_ordinal;
 use crate::show::put_row_time;
@@ -10,11 +10,13 @@ use comtrade_format::File;
 use comtrade_values::put;
 use std::alloc::{AllocError, Allocator};
 
-/// What was measured of a record's channels, the reference phasor of angles, and how it is shown.
+/// What was measured of a record's channels, the channels of three phases, the reference phasor of
+/// angles, and how it is shown.
 #[derive(Drop)]
 pub(crate) struct Found<'a, A: Allocator> {
     pub(crate) file: &'a File<A>,
     pub(crate) measures: &'a [Option<Measured<A>>],
+    pub(crate) threes: &'a [Three],
     pub(crate) reference: Option<Phasor>,
     pub(crate) shown: Shown<'a>,
 }

@@ -13,5 +13,7 @@ mod side;
 
 pub use encoding::{spell_for_views, spell_in_utf8};
 pub use fault::PartFault;
+pub(crate) use moment::{Moment, moment_of};
+pub(crate) use names::fits;
 pub(crate) use reach::{Reach, reach_of};
 pub use record::{Cut, is_whole, part_of};

@@ -42,11 +42,10 @@ fn put_three<A: Allocator>(
     end_cell(table)
 }
 
-/// The table of sequence components of these channels.
+/// The table of sequence components.
 pub(crate) fn sequence_table<A: Allocator>(
     alloc: A,
     found: &Found<'_, A>,
-    threes: &[Three],
 ) -> Result<Vec<u8, A>, AllocError> {
     let mut table = table_of(
         alloc,
@@ -54,7 +53,7 @@ pub(crate) fn sequence_table<A: Allocator>(
     )?;
     let file = found.file;
     let channels = file.head.analog.items();
-    for three in threes {
+    for three in found.threes {
         put_three(&mut table, channels, *three)?;
         match components_of(found.measures, *three) {
             Some(sequence) => put_sequence(&mut table, sequence, found.reference)?,

@@ -2,7 +2,8 @@
 
 ghost use Rattle.std.specs.Prelude.{◌≡◌, ◌+◌, ◌++◌, length, IfOk, OnOk, decimal};
 ghost use Rattle.comtrade_analysis.specs.Surveys.{AreSurveys};
-ghost use Rattle.comtrade_views.specs.Texts.{cell, short};
+ghost use Rattle.comtrade_io.specs.Safe.{safe};
+ghost use Rattle.comtrade_views.specs.Texts.{cell};
 
 use crate::number::{put_decimal, put_ordinal, scale_of, value_of};
 use crate::show::{Clock, put_row_time};
@@ -14,20 +15,10 @@ use comtrade_values::{Memory, put, put_count, put_exact, put_number};
 use dfr_channels::{AnalogChannel, Side};
 use std::alloc::{AllocError, Allocator};
 
-/// The greatest length in bytes of a text in a file of the standard.
-const LONGEST: usize = 64;
-
-/// A text from the file. One that is longer than the standard allows is cut to its first bytes and
-/// three dots.
+/// A text from the file.
 fn put_text_cell<A: Allocator>(table: &mut Vec<u8, A>, text: &[u8]) -> Result<(), AllocError>
-    ensures { OnOk result (table.new.items ≡ table.old.items ++ cell (short text.now)) }
+    ensures { OnOk result (table.new.items ≡ table.old.items ++ cell (safe text.now)) }
 {
-    if LONGEST < text.len() {
-        let (front, _) = text.split_at(LONGEST);
-        put_safe(table, front)?;
-        put(table, "...")?;
-        return end_cell(table);
-    }
     put_safe(table, text)?;
     end_cell(table)
 }
@@ -41,7 +32,7 @@ pub(crate) fn put_names<A: Allocator>(
     component: &[u8],
 ) -> Result<(), AllocError>
     ensures { OnOk result (table.new.items ≡ table.old.items ++ cell (decimal (place + 1))
-        ++ cell (short id.now) ++ cell (short phase.now) ++ cell (short component.now)) }
+        ++ cell (safe id.now) ++ cell (safe phase.now) ++ cell (safe component.now)) }
 {
     put_ordinal(table, "", place)?;
     end_cell(table)?;
@@ -125,7 +116,7 @@ pub(crate) fn surveys_in<A: Allocator + Copy>(
 }
 
 /// The table of the analogue channels, of which the rows hold this, below a line of column names.
-pub(crate) fn analog_table<A: Allocator + Copy>(
+fn analog_table<A: Allocator + Copy>(
     alloc: A,
     file: &File<A>,
     clock: Clock<'_>,

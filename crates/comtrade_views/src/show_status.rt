@@ -73,7 +73,7 @@ fn put_contact<A: Allocator + Copy>(
 const NAMES: &str = "n\x1Fid\x1Fphase\x1Fcomponent\x1Fnormal\x1Fat first\x1Fchanges\n";
 
 /// The table of status channels, below a line of column names.
-pub(crate) fn contact_table<A: Allocator + Copy>(
+fn contact_table<A: Allocator + Copy>(
     alloc: A,
     file: &File<A>,
     clock: Clock<'_>,

@@ -6,6 +6,7 @@ ghost use Rattle.comtrade_views.specs.Texts.{cell};
 
 use crate::cycles::Window;
 use crate::float::put_float;
+use crate::json_number::micros_of;
 use crate::number::{ordinal, put_ordinal};
 use crate::show::Clock;
 use crate::table::{end_cell, put_safe_cell};
@@ -40,9 +41,8 @@ impl<'a> Shown<'a> {
     /// When a row was taken, in milliseconds since the trigger, to the nearest microsecond, if that
     /// is known.
     pub(crate) fn millis_at(self, row: usize) -> Option<f64> {
-        let nanos = time_at(self.times, row)?;
-        let micros = nanos.div_euclid(1000) + (500 <= nanos.rem_euclid(1000)) as i64;
-        Some(nearest_i64_to_f64(micros) / 1000.0)
+        let micros = micros_of(time_at(self.times, row)? as i128);
+        Some(nearest_i64_to_f64(micros as i64) / 1000.0)
     }
 }
 

@@ -1,17 +1,14 @@
 //! A record in one line.
 
-ghost use Rattle.std.specs.Prelude.{◌≡◌, Some, None, IfOk};
+ghost use Rattle.std.specs.Prelude.{◌≡◌, Some, None, IfOk, IfSome};
 
-use crate::currents::{greatest_current, nominal_of};
-use crate::cycles::amperes_of;
+use crate::facts::{Facts, Greatest, facts_of};
 use crate::instant::{put_instant, put_millis};
-use crate::number::{put_decimal, scale_of, value_of};
+use crate::number::put_decimal;
 use crate::table::{end_cell, end_row, put_number_cell, put_safe_cell, put_table, table_of};
-use crate::times::times_of;
-use comtrade_analysis::event_counts_of;
 use comtrade_format::File;
 use comtrade_io::{ToolFault, put_safe};
-use comtrade_values::{Memory, put, put_count, put_exact, put_number, put_with};
+use comtrade_values::{put, put_count, put_exact, put_number, put_with};
 use std::alloc::{AllocError, Allocator, Global};
 
 /// The columns of the table.
@@ -21,73 +18,12 @@ const NAMES: &str =
 /// A record in one line, or why it has none.
 #[derive(Debug, Drop)]
 pub struct Summary<A: Allocator = Global> {
-    /// The trigger, in microseconds since 1970-01-01 00:00:00; None for a pair that cannot be read.
-    pub(crate) trigger: Option<i64>,
     /// The name of the pair.
     pub(crate) name: Vec<u8, A>,
-    /// The cells after the instant, or the line of the error.
-    pub(crate) text: Vec<u8, A>,
-}
-
-/// How long the record is.
-fn put_length<A: Allocator + Copy>(text: &mut Vec<u8, A>, file: &File<A>) -> Result<(), ToolFault> {
-    let times = times_of(*text.allocator(), file)?;
-    if let (Some(Some(first)), Some(Some(last))) = (times.first(), times.last()) {
-        put_millis(text, *last as i128 - *first as i128)?;
-    }
-    end_cell(text)?;
-    Ok(())
-}
-
-/// How many channels there are, and how many status channels change.
-fn put_channels<A: Allocator + Copy>(text: &mut Vec<u8, A>, file: &File<A>) -> Result<(), Memory> {
-    put_number(text, file.head.analog.items().len() as u64)?;
-    let contacts = file.head.status.items().len();
-    put_with(text, "A ", contacts as u64)?;
-    put(text, "D\x1F")?;
-    let counts = event_counts_of(*text.allocator(), file.rows.items(), contacts)?;
-    let changed = counts.iter().filter(|count| **count != 0).count();
-    Ok(put_number_cell(text, changed as u64)?)
-}
-
-/// `IB -10648.5 A, of nominal 600`, or `IB -10.6485 kA, of nominal 600 A`
-fn put_current<A: Allocator + Copy>(
-    text: &mut Vec<u8, A>,
-    file: &File<A>,
-) -> Result<(), ToolFault> {
-    if let Some(current) = greatest_current(*text.allocator(), file)? {
-        if let Some(channel) = file.head.analog.items().get(current.place) {
-            put_safe(text, channel.id.items())?;
-            put(text, " ")?;
-            let value = value_of(scale_of(channel), current.sample);
-            put_exact(text, value.to_six_digits())?;
-            put(text, " ")?;
-            put_safe(text, channel.unit.items())?;
-            put(text, ", of nominal ")?;
-            put_decimal(text, nominal_of(channel))?;
-            if amperes_of(channel.unit.items()) != 1.0 {
-                put(text, " A")?;
-            }
-        }
-    }
-    end_cell(text)?;
-    Ok(())
-}
-
-/// The cells of a record after its instant. Its rate is `-` where only stamps give the times of
-/// rows.
-fn put_cells<A: Allocator + Copy>(text: &mut Vec<u8, A>, file: &File<A>) -> Result<(), ToolFault> {
-    put_length(text, file)?;
-    match file.head.rates.items().first() {
-        Some(rate) if file.head.nrates != 0 => put_decimal(text, rate.samp)?,
-        _ => put(text, "-")?,
-    }
-    end_cell(text)?;
-    put_channels(text, file)?;
-    put_current(text, file)?;
-    put_safe_cell(text, file.head.station.items())?;
-    put_safe_cell(text, file.head.device.items())?;
-    Ok(())
+    /// None for a pair that cannot be read.
+    pub(crate) facts: Option<Facts<A>>,
+    /// The line of the error of a pair that cannot be read.
+    pub(crate) fault: Vec<u8, A>,
 }
 
 /// The line of a record that can be read.
@@ -96,16 +32,13 @@ pub fn summary_of<A: Allocator + Copy>(
     file: &File<A>,
     name: &[u8],
 ) -> Result<Summary<A>, ToolFault>
-    ensures trigger { IfOk result (λ summary. summary.trigger ≡ Some file.now.head.trigger) }
+    ensures trigger { IfOk result (λ summary. IfSome summary.facts (λ facts. facts.trigger ≡ file.now.head.trigger)) }
     ensures name { IfOk result (λ summary. summary.name.items ≡ name.now) }
 {
-    let mut text = Vec::new(alloc);
-    put_cells(&mut text, file)?;
-    let name = Vec::from_slice(alloc, name)?;
     Ok(Summary {
-        trigger: Some(file.head.trigger),
-        name,
-        text,
+        name: Vec::from_slice(alloc, name)?,
+        facts: Some(facts_of(alloc, file)?),
+        fault: Vec::new(alloc),
     })
 }
 
@@ -115,75 +48,118 @@ pub fn fault_summary<A: Allocator + Copy>(
     fault: Vec<u8, A>,
     name: &[u8],
 ) -> Result<Summary<A>, ToolFault>
-    ensures trigger { IfOk result (λ summary. summary.trigger ≡ None) }
+    ensures none { IfOk result (λ summary. summary.facts ≡ None) }
     ensures name { IfOk result (λ summary. summary.name.items ≡ name.now) }
-    ensures text { IfOk result (λ summary. summary.text.items ≡ fault.items) }
+    ensures fault { IfOk result (λ summary. summary.fault.items ≡ fault.items) }
 {
     Ok(Summary {
-        trigger: None,
         name: Vec::from_slice(alloc, name)?,
-        text: fault,
+        facts: None,
+        fault,
     })
+}
+
+/// The trigger of a record that can be read.
+fn trigger_of<A: Allocator>(record: &Summary<A>) -> Option<i64> {
+    match &record.facts {
+        Some(facts) => Some(facts.trigger),
+        None => None,
+    }
 }
 
 /// Sorts the records by their triggers; those that cannot be read come last.
 pub fn sort_summaries<A: Allocator + Copy>(
     records: &mut Vec<Summary<A>, A>,
 ) -> Result<(), ToolFault> {
-    records.sort_by_key(|record| (record.trigger.is_none(), record.trigger))?;
+    records.sort_by_key(|record| (record.facts.is_none(), trigger_of(record)))?;
     Ok(())
 }
 
-/// A line of the table.
-fn put_summary<A: Allocator>(
+/// `IB -10648.5 A, of nominal 600`, or `IB -10.6485 kA, of nominal 600 A`
+fn put_current<A: Allocator>(
     table: &mut Vec<u8, A>,
-    record: &Summary<A>,
+    current: &Greatest<A>,
 ) -> Result<(), AllocError> {
-    let Some(trigger) = record.trigger else {
-        return Ok(());
-    };
-    put_instant(table, trigger as i128)?;
+    put_safe(table, &current.id)?;
+    put(table, " ")?;
+    put_exact(table, current.value)?;
+    put(table, " ")?;
+    put_safe(table, &current.unit)?;
+    put(table, ", of nominal ")?;
+    put_decimal(table, current.nominal)?;
+    put(table, if current.is_scaled { " A" } else { "" })
+}
+
+/// The cells of a record. Its rate is `-` where only stamps give the times of rows.
+fn put_facts<A: Allocator>(table: &mut Vec<u8, A>, facts: &Facts<A>) -> Result<(), AllocError> {
+    put_instant(table, facts.trigger as i128)?;
     end_cell(table)?;
-    table.extend_from_slice(&record.text)?;
-    put_safe_cell(table, &record.name)?;
-    end_row(table)
+    if let Some(length) = facts.length {
+        put_millis(table, length)?;
+    }
+    end_cell(table)?;
+    match facts.rate {
+        Some(rate) => put_decimal(table, rate)?,
+        None => put(table, "-")?,
+    }
+    end_cell(table)?;
+    put_number(table, facts.analog as u64)?;
+    put_with(table, "A ", facts.status as u64)?;
+    put(table, "D\x1F")?;
+    put_number_cell(table, facts.changed as u64)?;
+    if let Some(current) = &facts.greatest {
+        put_current(table, current)?;
+    }
+    end_cell(table)?;
+    put_safe_cell(table, &facts.station)?;
+    put_safe_cell(table, &facts.device)
 }
 
 /// The table of the records that can be read, below a line of column names.
-pub(crate) fn summary_table<A: Allocator + Copy>(
+fn summary_table<A: Allocator + Copy>(
     alloc: A,
     records: &[Summary<A>],
 ) -> Result<Vec<u8, A>, AllocError> {
     let mut table = table_of(alloc, NAMES)?;
     for record in records {
-        put_summary(&mut table, record)?;
+        if let Some(facts) = &record.facts {
+            put_facts(&mut table, facts)?;
+            put_safe_cell(&mut table, &record.name)?;
+            end_row(&mut table)?;
+        }
     }
     Ok(table)
 }
 
-/// The errors of records, then the number of records and of those with errors.
+/// The errors of records, then the number of records, of those with errors, and of those that were
+/// not meant.
 fn put_faults<A: Allocator>(
     out: &mut Vec<u8, A>,
     records: &[Summary<A>],
+    others: u64,
 ) -> Result<(), AllocError> {
     for record in records {
-        if record.trigger.is_none() {
-            out.extend_from_slice(&record.text)?;
-        }
+        out.extend_from_slice(&record.fault)?;
     }
     put_count(out, records.len() as u64, " pair, ", " pairs, ")?;
-    let faulty = records.iter().filter(|record| record.trigger.is_none());
+    let faulty = records.iter().filter(|record| record.facts.is_none());
     put_number(out, faulty.count() as u64)?;
-    put(out, " with errors\n")
+    put(out, " with errors")?;
+    if others != 0 {
+        put_with(out, ", ", others)?;
+        put(out, " not shown")?;
+    }
+    put(out, "\n")
 }
 
-/// The table of records, then the errors, then how many there are.
+/// The table of records, then the errors, then how many there are, and how many others.
 pub fn put_summaries<A: Allocator + Copy>(
     alloc: A,
     out: &mut Vec<u8, A>,
     records: &[Summary<A>],
+    others: u64,
 ) -> Result<(), ToolFault> {
     put_table(out, &summary_table(alloc, records)?)?;
-    put_faults(out, records)?;
+    put_faults(out, records, others)?;
     Ok(())
 }

@@ -42,7 +42,7 @@ fn one_more(count: u32) -> u32
 }
 
 /// Whether two states differ.
-fn differ(one: bool, other: bool) -> bool
+pub(crate) fn differ(one: bool, other: bool) -> bool
     ensures { result ≡ spec.differ one other }
 {
     match (one, other) {

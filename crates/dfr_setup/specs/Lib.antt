@@ -6,3 +6,4 @@ pub mod Units
 pub mod Addends
 pub mod Plans
 pub mod SetupFiles
+pub mod RulesFiles

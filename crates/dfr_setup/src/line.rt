@@ -1,12 +1,13 @@
 //! The words of a line.
 
 ghost use Rattle.std.specs.Prelude.{◌≡◌, IfOk, position};
+ghost use Rattle.std.specs.List.{after_first};
 ghost use Rattle.std.specs.Str.{bytes_eq};
 ghost use Rattle.comtrade_values.specs.Lines.{texts, field};
 ghost use Rattle.comtrade_values.specs.Spelling as spelling;
 ghost use Rattle.dfr_setup.specs.Wishes as spec;
 
-use comtrade_values::integer_of;
+use comtrade_values::{integer_of, trim};
 use std::alloc::{AllocError, Allocator};
 
 /// Whether the byte is a space or a tab.
@@ -24,12 +25,23 @@ fn word_end(line: &[u8]) -> Option<usize>
 
 /// The text before the first blank.
 #[tactic(auto, using(comtrade_values::proofs::Cuts::cuts))]
-fn first_word(line: &[u8]) -> &[u8]
+pub(crate) fn first_word(line: &[u8]) -> &[u8]
     ensures { result.now ≡ spec.first_word line.now }
 {
     match word_end(line) {
         Some(end) => &line[..end],
         None => line,
+    }
+}
+
+/// The text after the first blank, without the blanks around it.
+#[tactic(auto, using(comtrade_values::proofs::Cuts::cuts))]
+pub(crate) fn rest_of(line: &[u8]) -> &[u8]
+    ensures { result.now ≡ spelling.trimmed (after_first spelling.is_blank line.now) }
+{
+    match word_end(line) {
+        Some(end) => trim(&line[end + 1..]),
+        None => &[],
     }
 }
 

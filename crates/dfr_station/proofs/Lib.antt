@@ -15,3 +15,4 @@ pub mod Failing
 pub mod Hours
 pub mod Behind
 pub mod Taking
+pub mod HandedOn

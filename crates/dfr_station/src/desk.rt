@@ -6,6 +6,7 @@ ghost use Rattle.dfr_live.specs.Lane.{lane_in, lane_out};
 ghost use Rattle.dfr_station.specs.Desks as spec;
 
 use crate::event::{Asked, Event, Replied, Skipped};
+use crate::headers::{Headers, Scribe};
 use crate::operator::Operator;
 use crate::signals::Signals;
 use crate::station::{Control, Recording};
@@ -38,6 +39,7 @@ pub(crate) struct Office<'s, A: Allocator = Global> {
     pub(crate) operator: Option<Operator<A>>,
     pub(crate) has_operator: bool,
     pub(crate) teller: Teller<A>,
+    scribe: Scribe<'s, A>,
     /// The line of the order that was handed out last. None if an operator gave it.
     line: Option<u64>,
     /// How many finished records may wait.
@@ -77,6 +79,7 @@ impl<'s, A: Allocator + Copy> Office<'s, A> {
         orders: Consumer<Placed<A>, A>,
         operator: Option<Control<A>>,
         teller: Teller<A>,
+        headers: Option<&'s Headers<A>>,
         shelf: u32,
         waits: bool,
     ) -> Office<'s, A>
@@ -98,6 +101,7 @@ impl<'s, A: Allocator + Copy> Office<'s, A> {
             has_operator: operator.is_some(),
             operator: operator.map(|control| Operator::new(alloc, control)),
             teller,
+            scribe: Scribe::new(headers),
             line: None,
             shelf,
             awaited: waits.then_some(shelf),
@@ -154,6 +158,7 @@ impl<A: Allocator + Copy> Office<'_, A> {
     {
         match self.next.take() {
             Some(Placed { line, at, order }) => {
+                self.scribe.hear(&order);
                 self.line = Some(line);
                 Some(live::Asked::Order(at, order))
             }
@@ -182,6 +187,7 @@ impl<A: Allocator + Copy> Office<'_, A> {
     {
         match self.hear_operator() {
             Some(order) => {
+                self.scribe.hear(&order);
                 self.line = None;
                 Some(live::Asked::Order(at, order))
             }
@@ -333,6 +339,12 @@ impl<A: Allocator + Copy> Desk<A, Recording> for Office<'_, A> {
     }
 
     fn answered(&mut self, at: u64, reply: Option<Reply>) -> bool {
+        self.scribe.note(at, reply);
+        if self.line.is_none()
+            && let Some(operator) = &mut self.operator
+        {
+            operator.answered(reply);
+        }
         self.teller.tell(event_of(self.line, at, reply));
         true
     }

@@ -8,13 +8,15 @@ ghost use Rattle.dfr_station.specs.Dated.{layout_under, last_shown, Changes};
 ghost use Rattle.dfr_station.specs.Finishing.{LosesScan, LosesScans, TriedLast, TriesLast, WritesLast, FinishesOpen, EndsOpen, Finishes, counted_last};
 
 use crate::event::{ClockState, Event, Trouble};
+use crate::headers::Headers;
+use crate::heading::{About, bytes_of, header_for};
 use crate::intake::{Counts, Recorded};
 use crate::naming::key_of;
 use crate::outlet::{LAST_TRIES, pause_before};
 use crate::run::{ended_event, print_one};
 use crate::shown::{Redated, redated_by, shown_cfg};
 use crate::station::{Printer, Store, Stored};
-use crate::times::followed_by;
+use crate::times::clock_state;
 use comtrade_write::{Kind, pair_of};
 use dfr_channels::Layout;
 use dfr_clock::Timebase;
@@ -57,20 +59,6 @@ fn is_closed<A: Allocator + Copy, R: Wait + Clock>(rt: &R, recorder: &mut Record
     !recorder.is_recording()
 }
 
-/// How the wall clock and the scans stood to each other at the end.
-fn clock_state<A: Allocator>(
-    counts: Counts,
-    start: i64,
-    times: Option<&Timebase<A>>,
-) -> Option<ClockState> {
-    let ahead = counts.clock?;
-    let followed = match times {
-        Some(timebase) => followed_by(timebase, start),
-        None => None,
-    };
-    Some(ClockState { ahead, followed })
-}
-
 /// How the last record is shown. None: as by the set-up.
 fn last_redated<A: Allocator>(
     layout: &Layout<A>,
@@ -85,9 +73,12 @@ fn last_redated<A: Allocator>(
     }
 }
 
-/// Makes a record's pair as it is shown, and hands it to the store, once.
-fn hand_over<K: Store, A: Allocator + Copy>(
+/// Makes a record's pair as it is shown, with its header, and hands it to the store, once.
+fn hand_over<K: Store, A: Allocator + Copy, R: Wait>(
+    rt: &R,
     alloc: A,
+    headers: Option<&Headers<A>>,
+    clock: Option<ClockState>,
     layout: &Layout<A>,
     kind: Kind,
     taken: &Record<A>,
@@ -104,10 +95,21 @@ fn hand_over<K: Store, A: Allocator + Copy>(
     let Ok(pair) = pair_of(alloc, layout, taken, kind) else {
         return Err(Trouble::Memory);
     };
+    let about = About {
+        extent: taken.extent(),
+        redated,
+        kind,
+        clock,
+        is_cut: true,
+    };
+    let Ok(header) = header_for(rt, alloc, headers, layout, about, &pair.dat) else {
+        return Err(Trouble::Memory);
+    };
+    let header = bytes_of(&header);
     match redated {
-        None => store.put(key, pair.cfg.as_slice(), pair.dat.as_slice()),
+        None => store.put(key, pair.cfg.as_slice(), pair.dat.as_slice(), header),
         Some(redated) => match shown_cfg(alloc, kind, redated, pair.cfg.as_slice()) {
-            Ok(cfg) => store.put(key, cfg.as_slice(), pair.dat.as_slice()),
+            Ok(cfg) => store.put(key, cfg.as_slice(), pair.dat.as_slice(), header),
             Err(_) => Err(Trouble::Memory),
         },
     }
@@ -118,6 +120,8 @@ fn hand_over<K: Store, A: Allocator + Copy>(
 fn stored<A: Allocator + Copy, K: Store, P: Printer, R: Wait + Clock>(
     rt: &R,
     alloc: A,
+    headers: Option<&Headers<A>>,
+    clock: Option<ClockState>,
     layout: &Layout<A>,
     kind: Kind,
     taken: &Record<A>,
@@ -134,7 +138,9 @@ fn stored<A: Allocator + Copy, K: Store, P: Printer, R: Wait + Clock>(
 {
     let mut told = None;
     for tries in 1..LAST_TRIES {
-        match hand_over(alloc, layout, kind, taken, key, redated, store) {
+        match hand_over(
+            rt, alloc, headers, clock, layout, kind, taken, key, redated, store,
+        ) {
             Ok(stored) => {
                 tell_over(rt, told, printer);
                 return Ok(stored);
@@ -149,7 +155,9 @@ fn stored<A: Allocator + Copy, K: Store, P: Printer, R: Wait + Clock>(
             }
         }
     }
-    match hand_over(alloc, layout, kind, taken, key, redated, store) {
+    match hand_over(
+        rt, alloc, headers, clock, layout, kind, taken, key, redated, store,
+    ) {
         Ok(stored) => {
             tell_over(rt, told, printer);
             Ok(stored)
@@ -186,6 +194,7 @@ fn tell_over<P: Printer, R: Clock>(rt: &R, told: Option<Trouble>, printer: &mut 
 fn written<A: Allocator + Copy, K: Store, P: Printer, R: Wait + Clock>(
     rt: &R,
     alloc: A,
+    headers: Option<&Headers<A>>,
     layout: &Layout<A>,
     kind: Kind,
     taken: &Record<A>,
@@ -202,7 +211,9 @@ fn written<A: Allocator + Copy, K: Store, P: Printer, R: Wait + Clock>(
 {
     let extent = taken.extent();
     let key = key_of(layout, extent, redated);
-    match stored(rt, alloc, layout, kind, taken, key, redated, store, printer) {
+    match stored(
+        rt, alloc, headers, clock, layout, kind, taken, key, redated, store, printer,
+    ) {
         Ok(stored) => {
             let record = Event::Record {
                 extent,
@@ -229,12 +240,12 @@ fn written<A: Allocator + Copy, K: Store, P: Printer, R: Wait + Clock>(
     }
 }
 
-/// Closes the record that is open, if there is one, and writes it. Returns the counts with this
-/// record.
+/// Closes the record that is open, if there is one, and writes it. Returns the counts with it.
 fn with_open<A: Allocator + Copy, K: Store, P: Printer, R: Wait + Clock>(
     rt: &R,
     alloc: A,
     kind: Kind,
+    headers: Option<&Headers<A>>,
     recorder: &mut Recorder<A>,
     times: &mut Option<Timebase<A>>,
     counts: Counts,
@@ -251,9 +262,9 @@ fn with_open<A: Allocator + Copy, K: Store, P: Printer, R: Wait + Clock>(
     {
         let layout = recorder.layout();
         let redated = last_redated(layout, taken.extent(), times);
-        let clock = clock_state(counts, layout.start(), times.as_ref());
+        let clock = clock_state(counts.clock, layout.start(), times.as_ref());
         return written(
-            rt, alloc, layout, kind, &taken, redated, clock, counts, store, printer,
+            rt, alloc, headers, layout, kind, &taken, redated, clock, counts, store, printer,
         );
     }
     print_one(rt, printer, Event::Unfinished);
@@ -269,6 +280,7 @@ pub fn finish_station<A: Allocator + Copy, K: Store, P: Printer, R: Wait + Clock
     rt: &R,
     alloc: A,
     kind: Kind,
+    headers: Option<&Headers<A>>,
     left: &mut Recorded<A>,
     store: &mut K,
     printer: &mut P,
@@ -280,7 +292,9 @@ pub fn finish_station<A: Allocator + Copy, K: Store, P: Printer, R: Wait + Clock
     let counts = left.counts;
     let recorder = &mut left.ended.recorder;
     let times = &mut left.times;
-    let counts = with_open(rt, alloc, kind, recorder, times, counts, store, printer);
+    let counts = with_open(
+        rt, alloc, kind, headers, recorder, times, counts, store, printer,
+    );
     print_one(rt, printer, ended_event(counts));
     left.counts = counts;
 }

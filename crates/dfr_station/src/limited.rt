@@ -105,12 +105,18 @@ impl<K: Store> Store for Limited<K> {
 
     ghost stores = { λ s key cfg dat r t. LimitedPut K.stores s key cfg dat r t };
 
-    fn put(&mut self, key: Key, cfg: &[u8], dat: &[u8]) -> Result<Stored, Trouble> {
+    fn put(
+        &mut self,
+        key: Key,
+        cfg: &[u8],
+        dat: &[u8],
+        header: Option<&[u8]>,
+    ) -> Result<Stored, Trouble> {
         let hour = hour_of(key);
         if !self.limit.admits(hour) {
             return Err(Trouble::Storm);
         }
-        let stored = self.store.put(key, cfg, dat);
+        let stored = self.store.put(key, cfg, dat, header);
         if stored.is_ok() {
             self.limit.note(hour);
         }

@@ -11,7 +11,7 @@ use dfr_recorder::Extent;
 use std::alloc::Allocator;
 
 /// The instant of a record's trigger as it is shown.
-fn trigger_shown<A: Allocator>(
+pub(crate) fn trigger_shown<A: Allocator>(
     layout: &Layout<A>,
     extent: Extent,
     redated: Option<Redated>,

@@ -7,12 +7,14 @@ ghost use Rattle.dfr_station.specs.Desks.{TakesByte};
 use crate::desk::Office;
 use crate::event::{Asked, Event, Replied, Skipped};
 use crate::intake::{is_word, skipped_of_line, skipped_of_rules};
+use crate::kept::NewRules;
 use crate::station::Control;
+use comtrade_values::{Memory, trim};
 use dfr_channels::{Rule, Rules};
-use dfr_live::Order;
+use dfr_live::{Order, Reply};
 use dfr_script::{Command, LineRefusal, ScanSize, command_of_line};
 use rtrb::Consumer;
-use std::alloc::{Allocator, Global};
+use std::alloc::{AllocError, Allocator, Global};
 use std::sync::Arc;
 use std::sync::atomic::{AtomicBool, Ordering};
 
@@ -39,12 +41,24 @@ fn is_stop(line: &[u8]) -> bool
     is_word(line, "stop")
 }
 
+/// What stands behind the word `rules` of a line.
+fn words_behind<A: Allocator>(alloc: A, line: &[u8]) -> Result<Vec<u8, A>, AllocError> {
+    match line {
+        [b'r', b'u', b'l', b'e', b's', rest @ ..] => Vec::from_slice(alloc, trim(rest)),
+        _ => Ok(Vec::new(alloc)),
+    }
+}
+
 /// The queue of an operator's bytes, and the line that is being read.
 #[derive(Drop)]
 pub(crate) struct Operator<A: Allocator = Global> {
     bytes: Consumer<u8, A>,
     /// Set by a line `stop`: the input is to end.
     stop: Arc<AtomicBool, Global>,
+    /// Where the rules are left that it sets, if they are kept.
+    kept: Option<Arc<NewRules<A>, Global>>,
+    /// The words of the rules that the order handed out last would set, if it sets any.
+    asked: Option<Result<Vec<u8, A>, Memory>>,
     /// What of the current line has come.
     line: Vec<u8, A>,
     /// Why the line is refused.
@@ -55,10 +69,12 @@ pub(crate) struct Operator<A: Allocator = Global> {
 
 impl<A: Allocator> Operator<A> {
     pub(crate) fn new(alloc: A, control: Control<A>) -> Operator<A> {
-        let Control { bytes, stop } = control;
+        let Control { bytes, stop, kept } = control;
         Operator {
             bytes,
             stop,
+            kept,
+            asked: None,
             line: Vec::new(alloc),
             refused: None,
             left: TURN,
@@ -79,6 +95,14 @@ impl<A: Allocator> Operator<A> {
         }
     }
 
+    /// The order that was handed out was answered: rules that were set are left, if they are kept.
+    pub(crate) fn answered(&mut self, reply: Option<Reply>) {
+        let asked = self.asked.take();
+        if let (Some(kept), Some(words), Some(Reply::SetRules(true))) = (&self.kept, asked, reply) {
+            kept.leave(words);
+        }
+    }
+
     /// Reads up to the end of a line, but no more bytes than are left in this turn. Returns whether
     /// that line is refused, or None if its end was not found.
     fn next_line(&mut self) -> Option<Result<(), Skipped>> {
@@ -96,6 +120,18 @@ impl<A: Allocator> Operator<A> {
             }
         }
         None
+    }
+}
+
+impl<A: Allocator + Copy> Operator<A> {
+    /// Notes the words of rules that the line is to set, if rules are kept.
+    fn note_rules(&mut self, alloc: A, said: &Result<Said<A>, Skipped>) {
+        self.asked = match said {
+            Ok(Said::Order(Order::SetRules(_))) if self.kept.is_some() => {
+                Some(words_behind(alloc, &self.line).map_err(|_| Memory))
+            }
+            _ => None,
+        };
     }
 }
 
@@ -167,6 +203,7 @@ impl<A: Allocator + Copy> Office<'_, A> {
                 Ok(()) => self.said_in(&operator.line),
                 Err(why) => Err(why),
             };
+            operator.note_rules(self.alloc, &said);
             operator.line.clear();
             match said {
                 Ok(Said::Nothing) => {}

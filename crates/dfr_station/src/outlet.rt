@@ -1,17 +1,16 @@
 //! Where finished records go: the pair of each is handed to the store until the store takes it.
 
-ghost use Rattle.std.specs.Prelude.{◌≡◌, MatchBool, IfSome, Some, false};
-ghost use Rattle.dfr_station.specs.Dated.{Shows, AreWritable, changed_cfg};
-ghost use Rattle.dfr_station.specs.Input.{one_more};
+ghost use Rattle.std.specs.Prelude.{◌≡◌};
 ghost use Rattle.dfr_station.specs.Storing.{TriedPair, StoredOrGivenUp};
 
-use crate::event::{ClockState, Event, Trouble};
+use crate::event::Trouble;
+use crate::headers::Headers;
+use crate::heading::bytes_of;
 use crate::naming::key_of;
-use crate::shown::{Redated, redated_by, shown_cfg};
+use crate::shown::Redated;
 use crate::signals::Signals;
-use crate::station::{Recording, Store, Stored};
+use crate::station::{Recording, Store};
 use crate::teller::Teller;
-use crate::times::followed_by;
 use comtrade_write::Kind;
 use dfr_channels::Layout;
 use dfr_clock::Timebase;
@@ -20,7 +19,6 @@ use dfr_live::{Outlet, Short};
 use dfr_recorder::Extent;
 use std::alloc::{Allocator, Global};
 use std::marker::Model;
-use std::sync::atomic::Ordering;
 use std::sync::{Mutex, Wait};
 use std::thread;
 use std::time::{Clock, Duration};
@@ -43,23 +41,25 @@ pub(crate) fn pause_before(rt: &(impl Wait + Clock), tries: u32) {
 /// The store, and what is reported of it.
 #[derive(Drop)]
 pub(crate) struct Exports<'s, K, R, A: Allocator = Global> {
-    rt: &'s R,
-    alloc: A,
-    layout: &'s Layout<A>,
-    kind: Kind,
+    pub(crate) rt: &'s R,
+    pub(crate) alloc: A,
+    pub(crate) layout: &'s Layout<A>,
+    pub(crate) kind: Kind,
     /// What dates the records, if the clock does.
-    times: Option<&'s Mutex<Timebase<A>>>,
-    signals: &'s Signals,
+    pub(crate) times: Option<&'s Mutex<Timebase<A>>>,
+    /// What headers tell, if records have them.
+    pub(crate) headers: Option<&'s Headers<A>>,
+    pub(crate) signals: &'s Signals,
     store: K,
-    teller: Teller<A>,
+    pub(crate) teller: Teller<A>,
     /// Why the store did not take the last pair.
-    trouble: Option<Trouble>,
+    pub(crate) trouble: Option<Trouble>,
     /// How often a pair was tried in vain since the input has ended.
-    last_tries: u32,
+    pub(crate) last_tries: u32,
     /// How many records the store took.
-    records: u64,
+    pub(crate) records: u64,
     /// How many records were given up.
-    unwritten: u64,
+    pub(crate) unwritten: u64,
 }
 
 impl<'s, K, R, A: Allocator> Model for Exports<'s, K, R, A> {
@@ -85,6 +85,7 @@ impl<'s, K, R, A: Allocator> Exports<'s, K, R, A> {
         layout: &'s Layout<A>,
         kind: Kind,
         times: Option<&'s Mutex<Timebase<A>>>,
+        headers: Option<&'s Headers<A>>,
         signals: &'s Signals,
         store: K,
         teller: Teller<A>,
@@ -102,6 +103,7 @@ impl<'s, K, R, A: Allocator> Exports<'s, K, R, A> {
             layout,
             kind,
             times,
+            headers,
             signals,
             store,
             teller,
@@ -145,167 +147,20 @@ pub(crate) enum Tried {
     GivenUp,
 }
 
-impl<K, R: Wait + Clock, A: Allocator> Exports<'_, K, R, A> {
-    /// How the wall clock and the scans stand to each other.
-    fn clock_state(&self) -> Option<ClockState> {
-        let ahead = self.signals.clock()?;
-        let followed = match self.times {
-            Some(times) => followed_by(&times.lock(self.rt), self.layout.start()),
-            None => None,
-        };
-        Some(ClockState { ahead, followed })
-    }
-
-    /// Reports that the store took a pair, and counts it.
-    fn tell_stored(&mut self, extent: Extent, stored: Stored)
-        ensures { self.new ≡ record self.old { records = one_more self.old.records } }
-    {
-        if self.trouble.is_some() {
-            self.trouble = None;
-            self.teller.tell(Event::Over);
-        }
-        self.records = self.records.saturating_add(1);
-        self.signals.records.store(self.records, Ordering::SeqCst);
-        let clock = self.clock_state();
-        self.teller.tell(Event::Record {
-            extent,
-            key: stored.key,
-            clock,
-            is_cut: false,
-        });
-        if stored.removed > 0 {
-            self.teller.tell(Event::Removed(stored.removed));
-        }
-    }
-
-    /// The files of a record were made: a want of memory is over.
-    fn tell_memory(&mut self)
-        ensures { self.new ≡ self.old }
-    {
-        if self.trouble == Some(Trouble::Memory) {
-            self.trouble = None;
-            self.teller.tell(Event::Over);
-        }
-    }
-
-    /// Reports that a record is given up, and counts it.
-    fn give_up(&mut self, key: Key, extent: Extent, why: Trouble)
-        ensures { self.new ≡ record self.old { unwritten = one_more self.old.unwritten } }
-    {
-        self.unwritten = self.unwritten.saturating_add(1);
-        self.teller.tell(Event::Unwritten { extent, key, why });
-    }
-
-    /// Reports why a pair wasn't stored, unless that was done. After a second it is tried again; but
-    /// after the input has ended, only a few times in all, and in a storm never. Returns whether it is
-    /// tried again. If not, the record is counted.
-    fn tries_again(&mut self, key: Key, extent: Extent, trouble: Trouble) -> bool
-        ensures counted { MatchBool result (self.new ≡ self.old)
-            (self.new ≡ record self.old { unwritten = one_more self.old.unwritten }) }
-        ensures storm { trouble ≡ Trouble.Storm → result ≡ false }
-    {
-        match trouble {
-            Trouble::Storm => {
-                self.tell_memory();
-                self.give_up(key, extent, trouble);
-                false
-            }
-            _ => self.waits(key, extent, trouble),
-        }
-    }
-
-    /// Reports a trouble, unless that was done.
-    fn tell_trouble(&mut self, trouble: Trouble)
-        ensures { self.new ≡ self.old }
-    {
-        if self.trouble != Some(trouble) {
-            self.trouble = Some(trouble);
-            self.teller.tell(Event::Trouble(trouble));
-        }
-    }
-
-    /// Reports a trouble, unless that was done, and waits for a second. After the input has ended the
-    /// record is given up in the end. Returns whether its pair is tried again.
-    fn waits(&mut self, key: Key, extent: Extent, trouble: Trouble) -> bool
-        ensures { MatchBool result (self.new ≡ self.old)
-            (self.new ≡ record self.old { unwritten = one_more self.old.unwritten }) }
-    {
-        self.tell_trouble(trouble);
-        if self.is_last() {
-            self.give_up(key, extent, trouble);
-            return false;
-        }
-        thread::sleep(self.rt, Duration::from_millis(RETRY));
-        true
-    }
-
-    /// Whether a record that the store didn't take is given up: the input has ended, and pairs were
-    /// tried often enough since then.
-    fn is_last(&mut self) -> bool
-        ensures { self.new ≡ self.old }
-    {
-        if !self.signals.acquired.load(Ordering::SeqCst) {
-            return false;
-        }
-        if self.last_tries < LAST_TRIES {
-            self.last_tries += 1;
-        }
-        self.last_tries == LAST_TRIES
-    }
-}
-
-impl<K, R: Wait + Clock, A: Allocator + Copy> Exports<'_, K, R, A> {
-    /// How a record is shown. None: as by the set-up.
-    fn dated(&self, extent: Extent) -> Option<Redated>
-        ensures { Shows self.now.dating extent result }
-    {
-        let times = self.times?;
-        let date = times.lock(self.rt).date(extent.trigger);
-        redated_by(self.layout, extent, date)
-    }
-
-    /// A configuration file after this change. As long as there is no memory, it is tried again; after
-    /// the input has ended, a few times in all.
-    fn changed(&mut self, redated: Redated, cfg: &[u8]) -> Option<Vec<u8, A>>
-        requires was { AreWritable redated.was }
-        requires is { AreWritable redated.is }
-        ensures same { self.new ≡ self.old }
-        ensures changed { IfSome result (λ changed.
-            changed.items ≡ changed_cfg self.old.dating.kind redated cfg.now) }
-    {
-        for _ in self.rt.forever() {
-            if let Ok(changed) = shown_cfg(self.alloc, self.kind, redated, cfg) {
-                return Some(changed);
-            }
-            if self.is_last() {
-                return None;
-            }
-            self.tell_trouble(Trouble::Memory);
-            thread::sleep(self.rt, Duration::from_millis(RETRY));
-        }
-        unreachable!()
-    }
-
-    /// How a record is shown, and its configuration file so. None: as by the set-up.
-    fn shown(&mut self, extent: Extent, cfg: &[u8]) -> Option<(Redated, Vec<u8, A>)>
-        ensures same { self.new ≡ self.old }
-        ensures dated { IfSome result (λ shown. Shows self.old.dating extent (Some shown.0)) }
-        ensures shown { IfSome result (λ shown.
-            shown.1.items ≡ changed_cfg self.old.dating.kind shown.0 cfg.now) }
-    {
-        let redated = self.dated(extent)?;
-        let cfg = self.changed(redated, cfg)?;
-        Some((redated, cfg))
-    }
-}
-
 impl<K: Store, R: Wait + Clock, A: Allocator> Exports<'_, K, R, A> {
     /// Hands a pair to the store once.
-    fn tried(&mut self, key: Key, extent: Extent, cfg: &[u8], dat: &[u8]) -> Tried
+    fn tried(
+        &mut self,
+        key: Key,
+        extent: Extent,
+        cfg: &[u8],
+        dat: &[u8],
+        header: Option<&[u8]>,
+    ) -> Tried
         ensures { TriedPair K.stores key (record { extent = extent; cfg = cfg.now; dat = dat.now })
             self.old result self.new }
     {
-        match self.store.put(key, cfg, dat) {
+        match self.store.put(key, cfg, dat, header) {
             Ok(stored) => {
                 self.tell_stored(extent, stored);
                 Tried::Stored
@@ -321,18 +176,43 @@ impl<K: Store, R: Wait + Clock, A: Allocator> Exports<'_, K, R, A> {
     }
 
     /// Hands a pair to the store until the store takes it or the record is given up.
-    fn hand_on(&mut self, key: Key, extent: Extent, cfg: &[u8], dat: &[u8])
+    fn keep_offering(
+        &mut self,
+        key: Key,
+        extent: Extent,
+        cfg: &[u8],
+        dat: &[u8],
+        header: Option<&[u8]>,
+    )
         ensures { StoredOrGivenUp K.stores key
             (record { extent = extent; cfg = cfg.now; dat = dat.now }) self.old self.new }
     {
         for _ in self.rt.forever() {
-            match self.tried(key, extent, cfg, dat) {
+            match self.tried(key, extent, cfg, dat, header) {
                 Tried::Stored => return,
                 Tried::GivenUp => return,
                 Tried::Again => {}
             }
         }
         unreachable!()
+    }
+}
+
+impl<K: Store, R: Wait + Clock, A: Allocator + Copy> Exports<'_, K, R, A> {
+    /// Hands a pair, with its header, to the store until the store takes it or the record is given up.
+    fn hand_on(
+        &mut self,
+        key: Key,
+        extent: Extent,
+        redated: Option<Redated>,
+        cfg: &[u8],
+        dat: &[u8],
+    )
+        ensures { StoredOrGivenUp K.stores key
+            (record { extent = extent; cfg = cfg.now; dat = dat.now }) self.old self.new }
+    {
+        let header = self.header(extent, redated, dat);
+        self.keep_offering(key, extent, cfg, dat, bytes_of(&header));
     }
 }
 
@@ -347,12 +227,12 @@ impl<K: Store, R: Wait + Clock, A: Allocator + Copy> Outlet<Recording> for Expor
         match self.shown(extent, cfg) {
             Some((redated, shown)) => {
                 let key = key_of(self.layout, extent, Some(redated));
-                self.hand_on(key, extent, &shown, dat);
+                self.hand_on(key, extent, Some(redated), &shown, dat);
                 Ok(())
             }
             None => {
                 let key = key_of(self.layout, extent, None);
-                self.hand_on(key, extent, cfg, dat);
+                self.hand_on(key, extent, None, cfg, dat);
                 Ok(())
             }
         }

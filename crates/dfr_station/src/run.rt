@@ -14,6 +14,7 @@ use crate::acquisition::Acquisition;
 use crate::desk::Office;
 use crate::event::Event;
 use crate::first::First;
+use crate::headers::Headers;
 use crate::intake::{Arrivals, Buffer, Counts, Recorded, RunFault};
 use crate::moment::Moment;
 use crate::outlet::Exports;
@@ -51,6 +52,7 @@ struct How<A: Allocator> {
     operator: Option<Control<A>>,
     waits: bool,
     watch: Watch,
+    chatter: Option<usize>,
 }
 
 /// What a run gives back.
@@ -70,7 +72,8 @@ pub struct Run<I, K, A: Allocator = Global> {
 /// - The trigger thread makes the steps and carries out orders.
 /// - The export thread hands each record's pair to the store until the store takes it.
 ///
-/// A fourth thread prints the events. `finish_station` writes the record that is open at the end.
+/// A fourth thread prints the events. `finish_station` writes the record that is open at the end. With
+/// `headers` each pair goes to the store with a header.
 /// Whatever the end, the input and the store come back. After `Memory` and `Open` both are
 /// unchanged. `Open` comes only from a recorder that has accepted a scan, or for want of memory.
 /// After `Counter`, and after `End` with another cause than memory, the store got the pairs of some
@@ -85,6 +88,7 @@ pub fn run_station<
     rt: &R,
     alloc: A,
     station: Station<A>,
+    headers: Option<&Headers<A>>,
     first: First<A>,
     input: I,
     store: K,
@@ -101,7 +105,13 @@ pub fn run_station<
         (input, store) (result.input, result.store)) }
 {
     let (recorder, inputs, how) = how_of(station, first);
-    match layout_and_parts(alloc, &recorder, &inputs, how.gap, how.clocks) {
+    match layout_and_parts(
+        alloc,
+        &recorder,
+        &inputs,
+        (how.gap, how.chatter),
+        how.clocks,
+    ) {
         Ok((layout, parts, times)) => {
             let times = shared(times);
             let dated = times.as_ref();
@@ -117,6 +127,7 @@ pub fn run_station<
                 parts,
                 (&layout, &inputs),
                 dated,
+                headers,
                 input,
                 store,
                 printer,
@@ -157,6 +168,7 @@ fn how_of<A: Allocator>(station: Station<A>, first: First<A>) -> (Recorder<A>, L
         operator,
         waits,
         gap,
+        chatter,
     } = station;
     let First {
         buffer,
@@ -177,6 +189,7 @@ fn how_of<A: Allocator>(station: Station<A>, first: First<A>) -> (Recorder<A>, L
         operator,
         waits,
         watch,
+        chatter,
     };
     (recorder, inputs, how)
 }
@@ -197,6 +210,7 @@ fn run_over<
     parts: Parts<A>,
     layouts: (&'a Layout<A>, &'a Layout<A>),
     times: Option<&'a Mutex<Timebase<A>>>,
+    headers: Option<&'a Headers<A>>,
     input: I,
     store: K,
     printer: &mut P,
@@ -216,6 +230,7 @@ fn run_over<
         tellers: (scans, triggers, exports),
         events,
         orders: (orders, placed),
+        contacts: (contacts, changes),
     } = parts;
     let How {
         form,
@@ -228,26 +243,30 @@ fn run_over<
         operator,
         waits,
         watch,
+        chatter: _,
     } = how;
     let (layout, inputs) = layouts;
     let signals = Signals::new();
     let arrivals = Arrivals::new(alloc, inputs, form, read, input);
     let scans = Scans::new(
-        alloc, inputs, &signals, scans, filler, detectors, times, waits,
+        alloc, inputs, &signals, scans, filler, detectors, contacts, times, waits,
     );
     let mut intake = Acquisition::new(rt, arrivals, scans, orders);
     let shelf = recorder.limits().shelf();
     let mut desk = Office::new(
-        alloc, layout, &signals, placed, operator, triggers, shelf, waits,
+        alloc, layout, &signals, placed, operator, triggers, headers, shelf, waits,
     );
-    let mut outlet = Exports::new(rt, alloc, layout, kind, times, &signals, store, exports);
+    let mut outlet = Exports::new(
+        rt, alloc, layout, kind, times, headers, &signals, store, exports,
+    );
     let telling = Mutex::new(Telling::new(
         &mut *printer,
         events,
+        changes,
         minutes,
         watch,
         times,
-        layout.start(),
+        layout,
     ));
     let pace = Napping {
         rt,

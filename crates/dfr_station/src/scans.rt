@@ -5,6 +5,7 @@ ghost use Rattle.std.specs.Prelude.{◌≡◌, MatchOption};
 ghost use Rattle.dfr_station.specs.Input.{one_more};
 ghost use Rattle.dfr_station.specs.Acquiring.{settled, Drops, IsFilled, GivesLost, GivesScan};
 
+use crate::contacts::Contacts;
 use crate::detection::detected;
 use crate::event::Event;
 use crate::filler::Filler;
@@ -61,6 +62,8 @@ pub(crate) struct Scans<'s, A: Allocator = Global> {
     teller: Teller<A>,
     filler: Filler<A>,
     detectors: Detectors<A>,
+    /// What tells the changes of contacts, if that is asked for.
+    contacts: Option<Contacts<A>>,
     came: u64,
     lost: u64,
     /// How many steps can be made: those up to the newest scan that the queue took.
@@ -112,6 +115,7 @@ impl<'s, A: Allocator + Copy> Scans<'s, A> {
         teller: Teller<A>,
         filler: Filler<A>,
         detectors: Detectors<A>,
+        contacts: Option<Contacts<A>>,
         times: Option<&'s Mutex<Timebase<A>>>,
         waits: bool,
     ) -> Scans<'s, A>
@@ -126,6 +130,7 @@ impl<'s, A: Allocator + Copy> Scans<'s, A> {
             teller,
             filler,
             detectors,
+            contacts,
             came: 0,
             lost: 0,
             ready: 0,
@@ -188,13 +193,25 @@ impl<'s, A: Allocator + Copy> Scans<'s, A> {
         self.teller.tell(event);
     }
 
+    /// The contacts have the bits of the newest scan that the queue took at the scan of this number.
+    fn see_contacts(&mut self, scan: u64)
+        ensures { self.new ≡ self.old }
+    {
+        if let Some(contacts) = &mut self.contacts {
+            contacts.see(self.signals, scan, self.filler.bits());
+        }
+    }
+
     /// What was given last has been taken by the queue.
     pub(crate) fn settle(&mut self)
         ensures { self.new ≡ settled self.old }
     {
         match self.given {
             LastGiven::Nothing => return,
-            LastGiven::Scan => self.filler.keep(),
+            LastGiven::Scan => {
+                self.filler.keep();
+                self.see_contacts(self.place);
+            }
             LastGiven::Filler => {}
         }
         self.given = LastGiven::Nothing;
@@ -360,8 +377,15 @@ impl<'s, A: Allocator + Copy> Scans<'s, A> {
         signals.ready.store(self.ready, Ordering::SeqCst);
     }
 
-    /// The input has ended.
-    pub(crate) fn end(&self) {
+    /// The input has ended. The contacts are seen as if they kept their states for a second more, so
+    /// that all their changes are told.
+    pub(crate) fn end(&mut self)
+        ensures { self.new ≡ self.old }
+    {
+        let rate = u64::from(self.layout.rate());
+        if let Some(scan) = self.place.checked_add(rate) {
+            self.see_contacts(scan);
+        }
         self.signals.acquired.store(true, Ordering::SeqCst);
     }
 }

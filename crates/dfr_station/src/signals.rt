@@ -22,6 +22,8 @@ pub(crate) struct Signals {
     pub(crate) waiting: AtomicU64,
     /// At how many scans a rule fired while the shelf was full.
     pub(crate) missed: AtomicU64,
+    /// How many changes of contacts the queue had no room for.
+    pub(crate) untold: AtomicU64,
     /// How often an allocation failed that is tried again.
     pub(crate) short: AtomicU64,
     /// How often since the input has ended.
@@ -42,6 +44,7 @@ impl Signals {
             records: AtomicU64::new(0),
             waiting: AtomicU64::new(0),
             missed: AtomicU64::new(0),
+            untold: AtomicU64::new(0),
             short: AtomicU64::new(0),
             last_short: AtomicU64::new(0),
             acquired: AtomicBool::new(false),

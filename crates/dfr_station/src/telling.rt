@@ -1,11 +1,13 @@
 //! The thread that prints the events of the other threads.
 
+use crate::contacts::Changes;
 use crate::event::{ClockState, Event, Followed};
 use crate::signals::Signals;
 use crate::station::Printer;
 use crate::teller::{Turn, Waiting};
 use crate::times::followed_by;
 use crate::watch::{Watch, millis};
+use dfr_channels::Layout;
 use dfr_clock::Timebase;
 use std::alloc::{Allocator, Global};
 use std::sync::atomic::Ordering;
@@ -23,12 +25,13 @@ pub(crate) struct Telling<'x, 's, P, A: Allocator = Global> {
     scans: Waiting<A>,
     triggers: Waiting<A>,
     exports: Waiting<A>,
+    /// The changes of contacts, if they are told.
+    changes: Option<Changes<A>>,
     minutes: bool,
     watch: Watch,
     /// What dates the records, if the clock does.
     times: Option<&'s Mutex<Timebase<A>>>,
-    /// The instant of scan 0 by the set-up.
-    start: i64,
+    layout: &'s Layout<A>,
     /// How many failed allocations that are tried again have been reported.
     short: u64,
 }
@@ -37,20 +40,22 @@ impl<'x, 's, P, A: Allocator> Telling<'x, 's, P, A> {
     pub(crate) fn new(
         printer: &'x mut P,
         (scans, triggers, exports): (Waiting<A>, Waiting<A>, Waiting<A>),
+        changes: Option<Changes<A>>,
         minutes: bool,
         watch: Watch,
         times: Option<&'s Mutex<Timebase<A>>>,
-        start: i64,
+        layout: &'s Layout<A>,
     ) -> Telling<'x, 's, P, A> {
         Telling {
             printer,
             scans,
             triggers,
             exports,
+            changes,
             minutes,
             watch,
             times,
-            start,
+            layout,
             short: 0,
         }
     }
@@ -80,7 +85,7 @@ impl<P: Printer, A: Allocator + Copy> Telling<'_, '_, P, A> {
     /// How the clock is followed, if it dates records.
     fn followed<R: Wait>(&self, rt: &R) -> Option<Followed> {
         let timebase = self.times?.lock(rt);
-        followed_by(&timebase, self.start)
+        followed_by(&timebase, self.layout.start())
     }
 
     /// Prints the events of the input's silence and of each minute, if they are due.
@@ -106,6 +111,14 @@ impl<P: Printer, A: Allocator + Copy> Telling<'_, '_, P, A> {
         }
     }
 
+    /// Hands over the changes of contacts. Returns whether there were any.
+    fn print_changes<R: Wait>(&mut self, rt: &R, signals: &Signals) -> bool {
+        match &mut self.changes {
+            Some(changes) => changes.print(rt, self.printer, signals, (self.times, self.layout)),
+            None => false,
+        }
+    }
+
     /// Prints the waiting events. Returns whether there were any. They are counted in the reverse of
     /// the order of printing, so that a record is never printed before its trigger.
     fn print<R: Wait + Clock>(&mut self, rt: &R, signals: &Signals) -> bool {
@@ -122,7 +135,8 @@ impl<P: Printer, A: Allocator + Copy> Telling<'_, '_, P, A> {
         self.print_short(turn, signals);
         self.exports.print(self.printer, turn, exports);
         self.print_watch(rt, turn, signals);
-        exports > 0 || triggers > 0 || scans > 0
+        let changed = self.print_changes(rt, signals);
+        changed || exports > 0 || triggers > 0 || scans > 0
     }
 }
 

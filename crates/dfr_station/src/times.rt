@@ -5,7 +5,7 @@ ghost use Rattle.std.specs.Prelude.{◌≡◌, ◌≤◌, pos, IfOk, IfSome, is_
 ghost use Rattle.dfr_station.specs.Dated.{is_followed};
 ghost use Rattle.dfr_station.specs.Followed as spec;
 
-use crate::event::Followed;
+use crate::event::{ClockState, Followed};
 use dfr_clock::{Drift, Jump, Reading, Settings, Timebase};
 use std::alloc::{AllocError, Allocator};
 
@@ -99,4 +99,19 @@ pub(crate) fn followed_by<A: Allocator>(timebase: &Timebase<A>, start: i64) -> O
             None => None,
         },
     })
+}
+
+/// How the wall clock and the scans stand to each other, if the clock was so much ahead of the newest
+/// scan.
+pub(crate) fn clock_state<A: Allocator>(
+    ahead: Option<i64>,
+    start: i64,
+    times: Option<&Timebase<A>>,
+) -> Option<ClockState> {
+    let ahead = ahead?;
+    let followed = match times {
+        Some(timebase) => followed_by(timebase, start),
+        None => None,
+    };
+    Some(ClockState { ahead, followed })
 }

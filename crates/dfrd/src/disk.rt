@@ -136,7 +136,7 @@ pub(crate) fn files_in<R: Files<File = File> + AllocGlobal + Clone + Drop>(
 }
 
 /// Makes a file with these bytes.
-fn written<R: Files<File = File>>(rt: &R, path: &str, bytes: &[u8]) -> io::Result<File> {
+pub(crate) fn written<R: Files<File = File>>(rt: &R, path: &str, bytes: &[u8]) -> io::Result<File> {
     let mut file = File::create(rt, path)?;
     file.write_all(bytes)?;
     Ok(file)
@@ -149,7 +149,7 @@ fn sync_file<R: Files<File = File>>(rt: &R, path: &str) -> io::Result<()> {
 
 /// Syncs the folder, so that its names are on the disk. A file system that can't sync a folder is
 /// left alone.
-fn sync_folder<R: Files<File = File>>(rt: &R, path: &str) -> io::Result<()> {
+pub(crate) fn sync_folder<R: Files<File = File>>(rt: &R, path: &str) -> io::Result<()> {
     match sync_file(rt, path) {
         Err(error)
             if error.kind() != ErrorKind::InvalidInput && error.kind() != ErrorKind::Unsupported =>
@@ -159,7 +159,7 @@ fn sync_folder<R: Files<File = File>>(rt: &R, path: &str) -> io::Result<()> {
 }
 
 /// Removes a file, if there is one.
-fn clear<R: Files>(rt: &R, path: &str) -> io::Result<()> {
+pub(crate) fn clear<R: Files>(rt: &R, path: &str) -> io::Result<()> {
     match fs::remove_file(rt, path) {
         Err(error) if error.kind() != ErrorKind::NotFound => Err(error),
         _ => Ok(()),

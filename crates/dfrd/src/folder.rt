@@ -1,13 +1,11 @@
 //! The folder of records. Which files are written, renamed and removed, and in which order, is
 //! decided in `dfr_folder`: whatever stops `dfrd`, a `.cfg` has its whole pair.
 
-ghost use Rattle.std.specs.Prelude.{◌≡◌, ◌⊎◌, ◌++◌, ◌∷◌, []};
-
 use crate::disk::Disk;
-use crate::outcome::{Reason, complain, reason_for, reason_of};
-use crate::pair::{is_free, size_of_pair};
+use crate::header_file::RecordFiles;
+use crate::outcome::Reason;
 use crate::place::Place;
-use dfr_folder::{Keep, Key, Mended, Put, Recorded, Unknown, mend, put_for, put_or_mend};
+use dfr_folder::{Keep, Key, Recorded, Unknown};
 use dfr_station::{Store, Stored, Trouble};
 use std::alloc::Global;
 use std::fs::File;
@@ -19,7 +17,12 @@ use thiserror::Error;
 pub trait Records: Store {
     /// Opens the store. Finishes or removes what an interrupted recording left. Notes the existing
     /// pairs, unless all are kept.
-    fn open(&mut self, place: Arc<Place, Global>, keep: Keep) -> Result<(), FolderFault>;
+    fn open(
+        &mut self,
+        place: Arc<Place, Global>,
+        keep: Keep,
+        has_headers: bool,
+    ) -> Result<(), FolderFault>;
 }
 
 /// Why a folder can't be used for records.
@@ -58,6 +61,10 @@ pub struct Folder<'a, R> {
     /// How often the lock had been taken anew when the files were listed.
     pub(crate) turn: u64,
     pub(crate) keep: Keep,
+    /// Whether headers without a pair are removed at the start.
+    pub(crate) has_headers: bool,
+    /// Why the last header could not be written.
+    pub(crate) unheaded: Option<Reason>,
     pub(crate) pairs: Vec<(Key, u64)>,
     /// The pairs that could not be removed, as the folder can't be synced; they are reported.
     pub(crate) stuck: Vec<Key>,
@@ -68,7 +75,7 @@ pub struct Folder<'a, R> {
     /// How many pairs were removed since the last record.
     pub(crate) removed: u64,
     /// Why the last record could not be stored.
-    reported: Option<Reason>,
+    pub(crate) reported: Option<Reason>,
 }
 
 impl<'a, R: AllocGlobal> Folder<'a, R> {
@@ -80,6 +87,8 @@ impl<'a, R: AllocGlobal> Folder<'a, R> {
             opened: None,
             turn: 0,
             keep: Keep::All,
+            has_headers: false,
+            unheaded: None,
             pairs: Vec::new(rt.alloc()),
             stuck: Vec::new(rt.alloc()),
             pending: None,
@@ -102,121 +111,17 @@ fn trouble_of(reason: Reason) -> Trouble {
 }
 
 impl<'a, R: Files<File = File> + Eprint + AllocGlobal + Clone + Drop> Folder<'a, R> {
-    /// Notes a new pair, unless all are kept.
-    fn note_pair(&mut self, key: Key, size: u64)
-        ensures { (self.new.pairs.items ≡ self.old.pairs.items)
-            ⊎ (self.new.pairs.items ≡ self.old.pairs.items ++ (key, size) ∷ []) }
-    {
-        if !matches!(self.keep, Keep::All) {
-            let _ = self.pairs.push((key, size));
-        }
-    }
-
-    /// Reports why a pair can't be written, unless that was done for the last one.
-    fn tell(&mut self, path: &str, reason: Reason) {
-        if self.reported != Some(reason) {
-            self.reported = Some(reason);
-            let _ = complain(self.rt, path, reason);
-        }
-    }
-
-    /// Completes or removes what is left of a pair that could not be written. Returns its key if it
-    /// is that of this record, and is there now.
-    fn take_up(
-        &mut self,
-        opened: &mut Opened<'a, R>,
-        path: &str,
-        record: Key,
-    ) -> Result<Option<Key>, Reason> {
-        let Some((of, key)) = self.pending else {
-            return Ok(None);
-        };
-        let mended = match mend(opened, key) {
-            Ok(mended) => mended,
-            Err(fault) => return Err(reason_for(fault, opened.system().reason())),
-        };
-        // what is left then waits for the next start: the record gets another name
-        self.pending = None;
-        if mended != Mended::There {
-            return Ok(None);
-        }
-        let Ok(size) = size_of_pair(self.rt, path, key) else {
-            return Err(Reason::Memory);
-        };
-        self.note_pair(key, size);
-        Ok((of == record).then_some(key))
-    }
-
-    /// Writes a pair under this key. Returns false if the key is in use. If that fails, completes or
-    /// removes what is left of it.
-    fn put_under(
-        &mut self,
-        opened: &mut Opened<'a, R>,
-        path: &str,
-        (record, key): (Key, Key),
-        (cfg, dat): (&[u8], &[u8]),
-    ) -> Result<bool, Reason> {
-        let size = cfg.len() as u64 + dat.len() as u64;
-        let Ok(surplus) = self.next_surplus(size) else {
-            return Err(Reason::Memory);
-        };
-        let put = match surplus {
-            Some(oldest) => {
-                let (put, _) = put_for(opened, key, cfg, dat, oldest);
-                self.note_removal(opened, oldest);
-                put
-            }
-            None => put_or_mend(opened, key, cfg, dat),
-        };
-        match put {
-            Put::There => {}
-            Put::Completed(fault) => self.tell(path, reason_for(fault, opened.system().reason())),
-            Put::Taken => return Ok(false),
-            Put::Failed(fault) => return Err(reason_for(fault, opened.system().reason())),
-            Put::Left(fault) => {
-                self.pending = Some((record, key));
-                return Err(reason_for(fault, opened.system().reason()));
-            }
-        }
-        self.note_pair(key, size);
-        Ok(true)
-    }
-
-    /// Writes a record's pair under the first name that no pair has yet. Returns the name.
-    fn put_free(
-        &mut self,
-        opened: &mut Opened<'a, R>,
-        path: &str,
-        record: Key,
-        files: (&[u8], &[u8]),
-    ) -> Result<Key, Reason> {
-        if let Some(key) = self.take_up(opened, path, record)? {
-            return Ok(key);
-        }
-        for copy in 1..u64::MAX {
-            let key = Key { copy, ..record };
-            let is_free = match is_free(self.rt, path, key) {
-                Ok(is_free) => is_free,
-                Err(error) => return Err(reason_of(&error)),
-            };
-            if is_free && self.put_under(opened, path, (record, key), files)? {
-                return Ok(key);
-            }
-        }
-        Err(Reason::Other)
-    }
-
     /// Writes a record's pair. While the disk is full, gives up old pairs, if not all are kept.
     fn write(
         &mut self,
         opened: &mut Opened<'a, R>,
         path: &str,
         record: Key,
-        (cfg, dat): (&[u8], &[u8]),
+        files: RecordFiles<'_>,
     ) -> Result<Key, Reason> {
-        let size = cfg.len() as u64 + dat.len() as u64;
+        let size = files.cfg.len() as u64 + files.dat.len() as u64;
         for _ in 0..u64::MAX {
-            let reason = match self.put_free(opened, path, record, (cfg, dat)) {
+            let reason = match self.put_free(opened, path, record, files) {
                 Ok(key) => return Ok(key),
                 Err(reason) => reason,
             };
@@ -228,7 +133,12 @@ impl<'a, R: Files<File = File> + Eprint + AllocGlobal + Clone + Drop> Folder<'a,
     }
 
     /// Stores a record's pair in the folder with this path, which is locked.
-    fn stored(&mut self, path: &str, record: Key, files: (&[u8], &[u8])) -> Result<Stored, Reason> {
+    fn stored(
+        &mut self,
+        path: &str,
+        record: Key,
+        files: RecordFiles<'_>,
+    ) -> Result<Stored, Reason> {
         let Some(mut opened) = self.opened.take() else {
             return Err(Reason::Gone);
         };
@@ -261,20 +171,25 @@ impl<R: Files<File = File> + Eprint + AllocGlobal + Clone + Drop + Wait> Folder<
         &mut self,
         place: &Place,
         key: Key,
-        cfg: &[u8],
-        dat: &[u8],
+        files: RecordFiles<'_>,
     ) -> Result<Stored, Reason> {
         self.settle(place)?;
-        self.stored(place.path.as_str(), key, (cfg, dat))
+        self.stored(place.path.as_str(), key, files)
     }
 }
 
 impl<R: Files<File = File> + Eprint + AllocGlobal + Clone + Drop + Wait> Store for Folder<'_, R> {
-    fn put(&mut self, key: Key, cfg: &[u8], dat: &[u8]) -> Result<Stored, Trouble> {
+    fn put(
+        &mut self,
+        key: Key,
+        cfg: &[u8],
+        dat: &[u8],
+        header: Option<&[u8]>,
+    ) -> Result<Stored, Trouble> {
         let Some(place) = self.place.take() else {
             return Err(Trouble::Gone);
         };
-        let stored = self.put_in(&place, key, cfg, dat);
+        let stored = self.put_in(&place, key, RecordFiles { cfg, dat, header });
         let answer = match stored {
             Ok(stored) => {
                 self.reported = None;

@@ -5,6 +5,7 @@ ghost use Rattle.dfr_folder.specs.Sorting.{AreOldestFirst};
 
 use crate::disk::{Disk, files_in};
 use crate::folder::{Folder, FolderFault, Records};
+use crate::header_file::tidy_headers;
 use crate::outcome::{FileFault, Reason, complain, reason_of};
 use crate::pair::size_of_pair;
 use crate::place::{Place, fault_of};
@@ -103,6 +104,11 @@ impl<'a, R: Files<File = File> + Eprint + AllocGlobal + Clone + Drop> Folder<'a,
             Ok(opened) => self.opened = Some(opened),
             Err((_, disk)) => return Err(disk.reason()),
         }
+        if self.has_headers
+            && let Err(error) = tidy_headers(self.rt, path)
+        {
+            return Err(reason_of(&error));
+        }
         match self.find_pairs(path) {
             Ok(()) => Ok(()),
             Err(error) => Err(reason_of(&error)),
@@ -117,8 +123,14 @@ fn is_denied(error: &io::Error) -> bool {
 }
 
 impl<R: Files<File = File> + Eprint + AllocGlobal + Clone + Drop + Wait> Records for Folder<'_, R> {
-    fn open(&mut self, place: Arc<Place, Global>, keep: Keep) -> Result<(), FolderFault> {
+    fn open(
+        &mut self,
+        place: Arc<Place, Global>,
+        keep: Keep,
+        has_headers: bool,
+    ) -> Result<(), FolderFault> {
         self.keep = keep;
+        self.has_headers = has_headers;
         let probed = probe(self.rt, place.path.as_str());
         if let Err(error) = &probed
             && is_denied(error)

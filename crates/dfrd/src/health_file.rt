@@ -78,7 +78,7 @@ pub(crate) fn health_of(
 }
 
 /// The version, without the toolchain's.
-fn version() -> &'static str {
+pub(crate) fn version() -> &'static str {
     match VERSION.split_once(' ') {
         Some((version, _)) => version,
         None => VERSION,

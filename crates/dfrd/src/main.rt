@@ -1,13 +1,19 @@
 //! The program: `dfrd [OPTIONS] SETUP DIR` records the scans on standard input until that ends.
 #![tactic(auto)]
 
+mod amounts;
 mod check;
 mod disk;
+mod event_file;
+mod event_lines;
 mod feed;
 mod folder;
 mod found;
+mod header_file;
 mod health_file;
 mod heard;
+mod kept_rules;
+mod look;
 mod memory;
 mod operator;
 mod options;
@@ -15,20 +21,26 @@ mod outcome;
 mod output;
 mod pair;
 mod place;
+mod putting;
 mod record;
 mod removal;
+mod rules_file;
 mod threads;
 mod words;
 
+use crate::event_file::{EventFile, events_at};
+use crate::event_lines::{EventLines, Printed};
 use crate::feed::Source;
 use crate::folder::{Folder, Records};
 use crate::health_file::{health_of, keep_written, write_last};
 use crate::heard::Heeded;
+use crate::kept_rules::{Shared, keep_last, keep_rules, kept_rules_of};
+use crate::look::look;
 use crate::operator::{Follower, WAITING, Waker, follower_of, open_orders};
 use crate::outcome::{complain, out_of_memory};
 use crate::output::{lines_of, write_lines};
 use crate::place::{Place, watch};
-use crate::record::{Plan, keep_of, plan_of, record};
+use crate::record::{Plan, inputs_in, keep_of, plan_of, record};
 use crate::threads::{copy_of, fed_of, has_begun};
 use crate::words::{Answer, Asked, answer_of};
 use comtrade_io::{ToolFault, fault_of, put_safe};
@@ -121,6 +133,7 @@ fn followed<R: Files<File = File> + Eprint + AllocGlobal>(
     let control = Control {
         bytes: operator,
         stop,
+        kept: None,
     };
     Some((control, follower, waker))
 }
@@ -133,16 +146,61 @@ struct Ready<'a> {
     place: Arc<Place, Global>,
     operator: Option<Control>,
     following: Option<(Follower, Waker)>,
+    /// The file in which an operator's rules are kept, for two threads.
+    kept: Option<(Shared, Shared)>,
+    events: Option<(EventLines, EventFile)>,
+}
+
+/// The same recording with the file of events of this path. Returns the exit status if that isn't
+/// possible.
+fn with_events<'a, R: Files<File = File> + Eprint + AllocGlobal>(
+    rt: &R,
+    ready: Ready<'a>,
+    path: &str,
+) -> Result<Ready<'a>, u8> {
+    let mut ready = ready;
+    let Some(inputs) = inputs_in(rt, &ready.plan) else {
+        return Err(1);
+    };
+    ready.events = events_at(rt, path, inputs);
+    match ready.events {
+        Some(_) => Ok(ready),
+        None => Err(1),
+    }
+}
+
+/// The same recording with the operator who writes to this file. Its rules are kept if the set-up names
+/// a file for them. Returns the exit status if that isn't possible.
+fn with_operator<'a, R: Files<File = File> + Eprint + AllocGlobal>(
+    rt: &R,
+    ready: Ready<'a>,
+    path: &str,
+) -> Result<Ready<'a>, u8> {
+    let mut ready = ready;
+    let Some((mut operator, follower, waker)) = followed(rt, path) else {
+        return Err(1);
+    };
+    if let Some(file) = &ready.plan.rules {
+        let Ok((file, other, new)) = kept_rules_of(rt.alloc(), file.path.as_str()) else {
+            return Err(out_of_memory(rt));
+        };
+        operator.kept = Some(new);
+        ready.kept = Some((file, other));
+    }
+    ready.operator = Some(operator);
+    ready.following = Some((follower, waker));
+    Ok(ready)
 }
 
 /// Checks and opens what these arguments name. Returns the exit status if nothing is to be recorded.
-fn made_ready<'a, K: Records, R: Files<File = File> + Print + Eprint + AllocGlobal>(
+fn made_ready<'a, K: Records, R: Files<File = File> + Input + Print + Eprint + AllocGlobal>(
     rt: &R,
     texts: &'a [&'a str],
     records: &mut K,
 ) -> Result<Ready<'a>, u8> {
     let asked = match answer_of(rt.alloc(), texts) {
         Ok(Answer::Do(asked)) => asked,
+        Ok(Answer::Look) => return Err(look(rt)),
         Ok(Answer::Print(text)) => return Err(print_text(rt, text.as_str())),
         Ok(Answer::Refuse(text)) => return Err(refuse_words(rt, text.as_str())),
         Err(_) => return Err(out_of_memory(rt)),
@@ -157,27 +215,29 @@ fn made_ready<'a, K: Records, R: Files<File = File> + Print + Eprint + AllocGlob
     let Ok(other) = Arc::try_clone(&place) else {
         return Err(out_of_memory(rt));
     };
-    if let Err(fault) = records.open(other, keep_of(&asked)) {
+    if let Err(fault) = records.open(other, keep_of(&asked), asked.has_headers) {
         return Err(complain(rt, asked.folder, fault));
     }
     if asked.is_check {
         return Err(0);
     }
-    let mut ready = Ready {
+    let ready = Ready {
         asked,
         plan,
         place,
         operator: None,
         following: None,
+        kept: None,
+        events: None,
     };
-    if let Some(path) = asked.orders {
-        let Some((operator, follower, waker)) = followed(rt, path) else {
-            return Err(1);
-        };
-        ready.operator = Some(operator);
-        ready.following = Some((follower, waker));
+    let ready = match asked.events {
+        Some(path) => with_events(rt, ready, path)?,
+        None => ready,
+    };
+    match asked.orders {
+        Some(path) => with_operator(rt, ready, path),
+        None => Ok(ready),
     }
-    Ok(ready)
 }
 
 // Only `main` may start a thread that has the runtime's files, so all of them begin here. They are
@@ -201,16 +261,19 @@ fn main(rt: HostRuntime) -> ExitCode {
         place,
         operator,
         following,
+        kept,
+        events,
     } = ready;
     let frame = plan.frame_in(asked.input);
     let station = plan.station.as_slice();
     let Ok((heard, health)) = health_of(rt.alloc(), asked.health, frame, station) else {
         return ExitCode::from(out_of_memory(&rt));
     };
-    let Ok((mut lines, mut waiting, progress)) = lines_of(&rt, &heard, asked.how()) else {
+    let Ok((lines, mut waiting, progress)) = lines_of(&rt, &heard, asked.how()) else {
         return ExitCode::from(out_of_memory(&rt));
     };
-    let (Some(one), Some(two), Some(three), Some(four), Some(five), Some(six)) = (
+    let (Some(one), Some(two), Some(three), Some(four), Some(five), Some(six), Some(seven)) = (
+        copy_of(&rt),
         copy_of(&rt),
         copy_of(&rt),
         copy_of(&rt),
@@ -227,6 +290,14 @@ fn main(rt: HostRuntime) -> ExitCode {
         begun = begun && has_begun(&rt, thread::spawn(&rt, move || follower.follow(&three)));
         begun = begun && has_begun(&rt, thread::spawn(&rt, move || waker.wake(&four)));
     }
+    let events = match events {
+        Some((lines, mut file)) => {
+            let writes = move || file.keep_written(&seven);
+            begun = begun && has_begun(&rt, thread::spawn(&rt, writes));
+            Some(lines)
+        }
+        None => None,
+    };
     let source = match &operator {
         None => Source::Direct(rt.reader()),
         Some(control) => {
@@ -244,6 +315,14 @@ fn main(rt: HostRuntime) -> ExitCode {
         begun = begun && has_begun(&rt, thread::spawn(&rt, move || keep_written(&five, &file)));
         last = Some(other);
     }
+    let mut kept_last = None;
+    if let Some((file, other)) = kept {
+        let Some(seven) = copy_of(&rt) else {
+            return ExitCode::from(1);
+        };
+        begun = begun && has_begun(&rt, thread::spawn(&rt, move || keep_rules(&seven, &file)));
+        kept_last = Some(other);
+    }
     if !begun {
         return ExitCode::from(1);
     }
@@ -254,8 +333,16 @@ fn main(rt: HostRuntime) -> ExitCode {
         frame,
     };
     let store = Limited::new(folder, asked.most);
-    let status = record(&rt, &asked, &plan, operator, input, store, &mut lines);
-    lines.finish();
+    let mut printed = Printed {
+        rt: &rt,
+        lines,
+        events,
+    };
+    let status = record(&rt, &asked, &plan, operator, input, store, &mut printed);
+    printed.finish();
+    if let Some(file) = kept_last {
+        keep_last(&rt, &file);
+    }
     if let Some(file) = last {
         write_last(&rt, &file);
     }

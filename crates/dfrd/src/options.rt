@@ -12,6 +12,9 @@ Standard input has one line for each scan, as after `go` in a script of dfr. Wit
 frame for each scan: each analogue channel in 2 bytes, then the status channels, sixteen in 2 bytes.
 dfrd prints one line for each event; docs/dfrd.md explains these lines.
 
+`dfrd --pcap --look < CAPTURE` needs no SETUP and no DIR: it prints the streams of sampled values and
+the GOOSE control blocks of a capture, and a set-up to start from.
+
 Exit status: 0 recorded to the end of the input; 1 an error; 2 usage error.";
 
 static KINDS: [&str; 2] = ["ascii", "binary"];
@@ -93,7 +96,7 @@ fn with_forms<'a>(alloc: Global, command: Command<'a>) -> Result<Command<'a>, Al
     with(four, choice(alloc, "gap", "N", gap))
 }
 
-/// Adds `--orders`, `--health`, `--keep`, `--keep-bytes` and `--most`.
+/// Adds `--orders`, `--health`, `--keep`, `--keep-bytes`, `--most` and `--hdr`.
 fn with_paths<'a>(alloc: Global, command: Command<'a>) -> Result<Command<'a>, AllocError> {
     let orders =
         "Read an operator's orders (`trigger`, `rules ..`, `stop`) from a FIFO or a growing file";
@@ -115,7 +118,28 @@ fn with_paths<'a>(alloc: Global, command: Command<'a>) -> Result<Command<'a>, Al
     let bytes = "Keep at most this many bytes of records; delete the oldest";
     let most = "Write at most N records for each hour; report each other one";
     let three = with(two, choice(alloc, "keep-bytes", "BYTES", bytes))?;
-    with(three, choice(alloc, "most", "N", most))
+    let four = with(three, choice(alloc, "most", "N", most))?;
+    let hdr = "Write a header file next to each pair: a text for people";
+    with(four, flag(alloc, "hdr", hdr))
+}
+
+/// Adds `--pcap` and `--look`.
+fn with_capture<'a>(alloc: Global, command: Command<'a>) -> Result<Command<'a>, AllocError> {
+    let pcap = flag(
+        alloc,
+        "pcap",
+        "Read a capture of the process bus (needs --look)",
+    );
+    let look = "With --pcap alone: print what the capture has, and a set-up to start from";
+    with(with(command, pcap)?, flag(alloc, "look", look))
+}
+
+/// Adds `--events` and `--chatter`.
+fn with_events<'a>(alloc: Global, command: Command<'a>) -> Result<Command<'a>, AllocError> {
+    let events = "Append each change of a contact to FILE, as a line with its instant";
+    let one = with(command, choice(alloc, "events", "FILE", events))?;
+    let chatter = "Append at most N lines for a contact in a second (default 20)";
+    with(one, choice(alloc, "chatter", "N", chatter))
 }
 
 /// Adds `--check`, `--quiet` and `--journal`.
@@ -142,8 +166,10 @@ fn with_names<'a>(alloc: Global, command: Command<'a>) -> Result<Command<'a>, Al
 pub(crate) fn dfrd<'a>(alloc: Global) -> Result<Command<'a>, AllocError> {
     let program = program(alloc)?.no_binary_name(true);
     let forms = with_forms(alloc, program)?;
-    let pace = with_pace(alloc, forms)?;
+    let captures = with_capture(alloc, forms)?;
+    let pace = with_pace(alloc, captures)?;
     let paths = with_paths(alloc, pace)?;
-    let flags = with_flags(alloc, paths)?;
+    let events = with_events(alloc, paths)?;
+    let flags = with_flags(alloc, events)?;
     with_names(alloc, flags)
 }

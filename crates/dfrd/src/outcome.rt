@@ -84,6 +84,18 @@ pub(crate) enum FileFault {
     /// The file of the recording's health.
     #[error("cannot be written: {0}")]
     Written(Reason),
+    /// The file of events, whose last line an earlier run left.
+    #[error("the last line is not whole; it is left as it is")]
+    Torn,
+    /// A file that is to have events, and has something else.
+    #[error("is not a file of events")]
+    NoEvents,
+    /// The file of events, while the disk is slow or takes nothing.
+    #[error("changes are missing, as too many wait to be written")]
+    Behind,
+    /// The file of events at the end: bytes that waited, and changes that had no room.
+    #[error("{0} bytes and {1} changes were not written")]
+    Unwritten(u64, u64),
     /// The folder, which another `dfrd` may then use too.
     #[error("cannot be locked: {0}")]
     Locked(Reason),

@@ -21,7 +21,7 @@ pub(crate) fn path_of(alloc: Global, folder: &str, name: Name) -> Result<String,
 }
 
 /// Whether a file, folder or link has this path.
-fn is_at<R: Files>(rt: &R, path: &str) -> io::Result<bool> {
+pub(crate) fn is_at<R: Files>(rt: &R, path: &str) -> io::Result<bool> {
     match fs::symlink_metadata(rt, path) {
         Ok(_) => Ok(true),
         Err(error) => {

@@ -3,15 +3,19 @@
 ghost use Rattle.std.specs.Prelude.{◌<◌, IfSome};
 
 use crate::check::{frame_of, need_of, print_judged};
+use crate::health_file::version;
 use crate::memory::{MemoryFault, affordable, machine_bytes};
 use crate::outcome::{complain, out_of_memory, reason_of};
+use crate::rules_file::{RulesFile, refuse, with_rules};
 use crate::words::Asked;
 use comtrade_io::{ToolFault, fault_of, read_up_to};
+use comtrade_values::Memory;
+use dfr_channels::Layout;
 use dfr_folder::Keep;
 use dfr_health::put_escaped;
 use dfr_setup::{Prepared, prepared_of};
 use dfr_station::{
-    Control, Event, Input, Printer, Run, Station, Store, finish_station, now, read_first,
+    Control, Event, Headers, Input, Printer, Run, Station, Store, finish_station, now, read_first,
     run_station,
 };
 use std::alloc::Global;
@@ -29,8 +33,10 @@ const LIMIT: usize = 536_870_912;
 /// A set-up that was checked.
 #[derive(Drop)]
 pub(crate) struct Plan {
-    /// The bytes of the set-up file.
+    /// The bytes of the set-up file, with the rules of their file.
     pub(crate) setup: Vec<u8>,
+    /// The file of the rules, if the set-up names one.
+    pub(crate) rules: Option<RulesFile>,
     /// The size of a frame in bytes.
     pub(crate) frame: usize,
     /// The scans per second.
@@ -72,6 +78,18 @@ fn read_setup<R: Files + AllocGlobal>(rt: &R, path: &str) -> Result<Vec<u8>, Too
     }
 }
 
+/// Reads the set-up file, and the rules of the file that it names, if it names one. What is wrong
+/// with that is printed, and the error is the exit status.
+fn whole_setup<R: Files + Eprint + AllocGlobal>(
+    rt: &R,
+    path: &str,
+) -> Result<(Vec<u8>, Option<RulesFile>), u8> {
+    match read_setup(rt, path) {
+        Ok(setup) => with_rules(rt, path, setup),
+        Err(fault) => Err(complain(rt, path, fault)),
+    }
+}
+
 /// Prints what would be recorded, if that is asked for. Refuses what needs more memory than the
 /// machine has. The error is the exit status.
 fn judged<R: Files<File = File> + Print + Eprint + AllocGlobal>(
@@ -98,12 +116,8 @@ pub(crate) fn plan_of<R: Files<File = File> + Print + Eprint + AllocGlobal>(
     rt: &R,
     asked: &Asked<'_>,
 ) -> Option<Plan> {
-    let setup = match read_setup(rt, asked.setup) {
-        Ok(setup) => setup,
-        Err(fault) => {
-            complain(rt, asked.setup, fault);
-            return None;
-        }
+    let Ok((setup, rules)) = whole_setup(rt, asked.setup) else {
+        return None;
     };
     match prepared_of(rt.alloc(), &setup, asked.start.unwrap_or(0)) {
         Ok(prepared) => {
@@ -123,13 +137,25 @@ pub(crate) fn plan_of<R: Files<File = File> + Print + Eprint + AllocGlobal>(
             }
             Some(Plan {
                 setup,
+                rules,
                 frame,
                 rate,
                 station,
             })
         }
         Err(refusal) => {
-            complain(rt, asked.setup, refusal);
+            refuse(rt, asked.setup, rules.as_ref(), refusal);
+            None
+        }
+    }
+}
+
+/// The channels of the input. None if there is no memory, which is printed.
+pub(crate) fn inputs_in<R: Eprint + AllocGlobal>(rt: &R, plan: &Plan) -> Option<Layout> {
+    match prepared_of(rt.alloc(), &plan.setup, 0) {
+        Ok(prepared) => Some(prepared.inputs),
+        Err(_) => {
+            out_of_memory(rt);
             None
         }
     }
@@ -178,7 +204,21 @@ fn station_of(
         operator,
         waits,
         gap: asked.gap,
+        chatter: asked.events.map(|_| asked.chatter),
     }
+}
+
+/// What headers tell, if they are asked for.
+fn headers_of<R: AllocGlobal>(
+    rt: &R,
+    asked: &Asked<'_>,
+    prepared: &Prepared<Global>,
+) -> Result<Option<Headers>, Memory> {
+    if !asked.has_headers {
+        return Ok(None);
+    }
+    let rules = prepared.recorder.rules();
+    Ok(Some(Headers::new(rt.alloc(), "dfrd", version(), rules)?))
 }
 
 /// Records until the input ends. Returns the exit status: 1 if no scan came, the input couldn't be
@@ -213,15 +253,21 @@ pub(crate) fn record<
     }
     match prepared_of(rt.alloc(), &plan.setup, start) {
         Ok(prepared) => {
+            let Ok(headers) = headers_of(rt, asked, &prepared) else {
+                return out_of_memory(rt);
+            };
+            let (alloc, headers) = (rt.alloc(), headers.as_ref());
             let station = station_of(prepared, asked, operator, waits);
             let Run {
                 recorded,
                 input: _,
                 mut store,
-            } = run_station(rt, rt.alloc(), station, first, input, store, printer);
+            } = run_station(rt, alloc, station, headers, first, input, store, printer);
             match recorded {
                 Ok(mut left) => {
-                    finish_station(rt, rt.alloc(), asked.kind, &mut left, &mut store, printer);
+                    finish_station(
+                        rt, alloc, asked.kind, headers, &mut left, &mut store, printer,
+                    );
                     u8::from(!left.counts.is_whole())
                 }
                 Err(fault) => complain(rt, "recording", fault),

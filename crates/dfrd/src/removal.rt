@@ -5,6 +5,7 @@ ghost use Rattle.std.specs.List.{remove};
 ghost use Rattle.dfrd.specs.Oldest.{IsFirst, TakesOff};
 
 use crate::folder::{Folder, Opened};
+use crate::header_file::drop_header;
 use crate::outcome::{FileFault, complain};
 use crate::pair::{is_there, path_of};
 use dfr_folder::{
@@ -83,12 +84,13 @@ impl<'a, R: Files<File = File> + Eprint + AllocGlobal + Clone + Drop> Folder<'a,
     }
 
     /// Notes that the oldest pair is gone, if it is.
-    pub(crate) fn note_removal(&mut self, opened: &mut Opened<'a, R>, oldest: Key)
+    pub(crate) fn note_removal(&mut self, opened: &mut Opened<'a, R>, path: &str, oldest: Key)
         ensures { (self.new.pairs.items ≡ self.old.pairs.items)
             ⊎ (self.new.pairs.items ≡ remove self.old.pairs.items 0) }
     {
         if !Self::is_named(opened, oldest) && !self.pairs.is_empty() {
             self.pairs.remove(0);
+            drop_header(self.rt, path, oldest);
             self.count_removal();
         }
     }
@@ -145,6 +147,7 @@ impl<'a, R: Files<File = File> + Eprint + AllocGlobal + Clone + Drop> Folder<'a,
             let removal = self.removal_of(opened, path, key);
             if removal != Removal::Stuck && at < self.pairs.len() {
                 self.pairs.remove(at);
+                drop_header(self.rt, path, key);
                 let was_there = removal == Removal::Done;
                 if was_there {
                     self.count_removal();

@@ -1,5 +1,6 @@
 //! What the command line asks for.
 
+use crate::amounts::{count_of, events_of, kept_of};
 use crate::options::dfrd;
 use crate::output::How;
 use clap::error::ErrorKind;
@@ -36,12 +37,18 @@ pub struct Asked<'a> {
     pub orders: Option<&'a str>,
     /// The path of the file of the recording's health.
     pub health: Option<&'a str>,
+    /// The path of the file of events.
+    pub events: Option<&'a str>,
+    /// The most changes of a contact in a second that it gets.
+    pub chatter: usize,
     /// The most records to keep. None if there is no such limit.
     pub pairs: Option<u64>,
     /// The most bytes of records to keep. None if there is no such limit.
     pub bytes: Option<u64>,
     /// The most records to write for each hour. None if there is no such limit.
     pub most: Option<u64>,
+    /// Write a header file next to each pair.
+    pub has_headers: bool,
     /// Only check the set-up and the folder.
     pub is_check: bool,
     /// Do not print a line each minute.
@@ -79,22 +86,12 @@ impl Asked<'_> {
 pub enum Answer<'a> {
     /// Record, or check.
     Do(Asked<'a>),
+    /// Print what the capture on standard input has.
+    Look,
     /// Print this text: the help or the version.
     Print(String),
     /// Report this usage error.
     Refuse(String),
-}
-
-/// The number given with an option, or None without the option. An error if it isn't a number or is
-/// less than 1.
-fn count_of(found: &ArgMatches<'_>, name: &str) -> Result<Option<u64>, ()> {
-    match found.get_str(name) {
-        None => Ok(None),
-        Some(text) => match text.parse::<u64>() {
-            Ok(n) if n > 0 => Ok(Some(n)),
-            _ => Err(()),
-        },
-    }
 }
 
 /// The start given with `--start`, or None for `now`. An error if it is neither `now` nor a number
@@ -163,23 +160,11 @@ fn waits_of(found: &ArgMatches<'_>) -> Result<Option<bool>, &'static str> {
     }
 }
 
-/// The most records and the most bytes of records to keep; at most one of them is given. The error
-/// is the text of a usage error.
-fn kept_of(found: &ArgMatches<'_>) -> Result<(Option<u64>, Option<u64>), &'static str> {
-    let Ok(pairs) = count_of(found, "keep") else {
-        return Err("error: --keep expects a number of records, 1 or more\n");
-    };
-    let Ok(bytes) = count_of(found, "keep-bytes") else {
-        return Err("error: --keep-bytes expects a number of bytes, 1 or more\n");
-    };
-    if pairs.is_some() && bytes.is_some() {
-        return Err("error: --keep cannot be combined with --keep-bytes\n");
-    }
-    Ok((pairs, bytes))
-}
-
 /// What the parsed command line asks for, or the text of a usage error.
 fn asked_of<'a>(found: &ArgMatches<'a>) -> Result<Asked<'a>, &'static str> {
+    if found.get_flag("pcap") || found.get_flag("look") {
+        return Err("error: --pcap and --look go together, without SETUP, DIR and other options\n");
+    }
     let Ok(start) = start_of(found) else {
         return Err("error: --start expects now or microseconds since 1970-01-01 00:00:00 UTC\n");
     };
@@ -193,6 +178,7 @@ fn asked_of<'a>(found: &ArgMatches<'a>) -> Result<Asked<'a>, &'static str> {
     let Ok(most) = count_of(found, "most") else {
         return Err("error: --most expects a number of records, 1 or more\n");
     };
+    let (events, chatter) = events_of(found)?;
     let (Some(setup), Some(folder)) = (found.get_str("SETUP"), found.get_str("DIR")) else {
         return Err("error: SETUP and DIR are required\n");
     };
@@ -207,9 +193,12 @@ fn asked_of<'a>(found: &ArgMatches<'a>) -> Result<Asked<'a>, &'static str> {
         gap,
         orders: found.get_str("orders"),
         health: found.get_str("health"),
+        events,
+        chatter,
         pairs,
         bytes,
         most,
+        has_headers: found.get_flag("hdr"),
         is_check: found.get_flag("check"),
         is_quiet: found.get_flag("quiet"),
         is_journal: found.get_flag("journal"),
@@ -239,8 +228,21 @@ fn refused<'a>(alloc: Global, why: &str) -> Result<Answer<'a>, AllocError> {
     }
 }
 
+/// Whether the arguments are `--pcap` and `--look`, in either order.
+fn is_look(words: &[&str]) -> bool {
+    match words {
+        [one, two] => {
+            (*one == "--pcap" && *two == "--look") || (*one == "--look" && *two == "--pcap")
+        }
+        _ => false,
+    }
+}
+
 /// Parses the arguments after the program's name.
 pub fn answer_of<'a>(alloc: Global, words: &'a [&'a str]) -> Result<Answer<'a>, AllocError> {
+    if is_look(words) {
+        return Ok(Answer::Look);
+    }
     match dfrd(alloc)?.try_get_matches_from(words) {
         Ok(matches) => match asked_of(&matches) {
             Ok(asked) => Ok(Answer::Do(asked)),

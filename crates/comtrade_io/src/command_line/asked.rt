@@ -12,8 +12,8 @@ use crate::command_line::matched::{
     cursor_of, form_of, is_set, kind_of, named, names_of, part_of, picture_of, text_of, texts_of,
 };
 use crate::words::{
-    Asked, Compared, Converted, Importing, Names, Survey, View, Viewed, new_names, survey_of,
-    view_of,
+    Asked, Compared, Converted, Diagnosed, Importing, Names, Survey, Surveyed, View, Viewed,
+    new_names, survey_of, view_of,
 };
 use clap::error::ErrorKind;
 use clap::{ArgMatches, Error};
@@ -47,6 +47,7 @@ fn viewed_of<'a>(view: View, found: &ArgMatches<'a>) -> Option<Asked<'a>>
             cursor: cursor_of(found),
             lines: text_of(found, "LINES"),
             json: is_set(found, "json"),
+            output: text_of(found, "output"),
         },
     ))
 }
@@ -106,6 +107,7 @@ fn compared_of<'a>(found: &ArgMatches<'a>) -> Option<Compared<'a>>
         by: text_of(found, "by"),
         part: part_of(found),
         picture: picture_of(found),
+        output: text_of(found, "output"),
     })
 }
 
@@ -118,6 +120,20 @@ fn compare_of<'a>(found: &ArgMatches<'a>) -> Option<Asked<'a>>
     Some(Asked::Compare(compared_of(found)?))
 }
 
+/// The records whose faults are told.
+fn diagnosed_of<'a>(alloc: Global, found: &ArgMatches<'a>) -> Result<Asked<'a>, AllocError>
+    ensures { IfOk result (Asks (rows_of (found_of found.now)) (codes "fault")) }
+{
+    Ok(Asked::Fault(Diagnosed {
+        names: texts_of(alloc, found, "NAMES")?,
+        recursive: is_set(found, "recursive"),
+        long: is_set(found, "long"),
+        json: is_set(found, "json"),
+        encoding: text_of(found, "encoding"),
+        output: text_of(found, "output"),
+    }))
+}
+
 /// The folder of an extract.
 #[tactic(auto, using(crate::proofs::MetCommands::no_extract))]
 fn extract_of<'a>(found: &ArgMatches<'a>) -> Option<Asked<'a>>
@@ -127,7 +143,26 @@ fn extract_of<'a>(found: &ArgMatches<'a>) -> Option<Asked<'a>>
     Some(Asked::Extract(text_of(found, "DIR")?))
 }
 
-/// Folders and files.
+/// Folders and files, which of their records are meant, and how they are listed.
+fn listed_of<'a>(alloc: Global, found: &ArgMatches<'a>) -> Result<Surveyed<'a>, AllocError>
+    ensures { IfOk result (Spec.IsSurveyed (rows_of (found_of found.now))) }
+{
+    Ok(Surveyed {
+        names: texts_of(alloc, found, "NAMES")?,
+        recursive: is_set(found, "recursive"),
+        from: text_of(found, "from"),
+        to: text_of(found, "to"),
+        station: text_of(found, "station"),
+        least_current: text_of(found, "min-current"),
+        kinds: text_of(found, "type"),
+        json: is_set(found, "json"),
+        csv: is_set(found, "csv"),
+        encoding: text_of(found, "encoding"),
+        output: text_of(found, "output"),
+    })
+}
+
+/// A list of many records.
 fn surveyed_of<'a>(
     alloc: Global,
     survey: Survey,
@@ -135,13 +170,7 @@ fn surveyed_of<'a>(
 ) -> Result<Asked<'a>, AllocError>
     ensures { IfOk result (Asks (rows_of (found_of found.now)) (verbs.survey_name survey)) }
 {
-    let names = texts_of(alloc, found, "NAMES")?;
-    Ok(Asked::Survey(
-        survey,
-        is_set(found, "json"),
-        text_of(found, "encoding"),
-        names,
-    ))
+    Ok(Asked::Survey(survey, listed_of(alloc, found)?))
 }
 
 /// What a command's matches ask for.
@@ -165,6 +194,9 @@ fn asked_of<'a>(
     }
     if verb == "compare" {
         return Ok(compare_of(found));
+    }
+    if verb == "fault" {
+        return Ok(Some(diagnosed_of(alloc, found)?));
     }
     if let Some(view) = view_of(verb) {
         return Ok(viewed_of(view, found));

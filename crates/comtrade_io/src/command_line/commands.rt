@@ -1,6 +1,6 @@
 //! The commands of the program, with their arguments and help texts. A command is one function
 //! here, a definition of the same name in `specs/Commands.antt`, and a line in the function of its
-//! group. `list` and `events` take the same arguments, so each is only that line.
+//! group.
 
 ghost use Rattle.std.specs.Prelude.{IfOk};
 ghost use Rattle.clap.specs.Words.{App, new_app};
@@ -9,8 +9,8 @@ ghost use Rattle.comtrade_io.specs.Commands as Spec;
 
 use crate::VERSION;
 use crate::command_line::options::{
-    free_word, option, repeated, with, with_encoding, with_json, with_part, with_picture, word,
-    words,
+    flag, free_word, option, recursive, repeated, with, with_encoding, with_filter, with_json,
+    with_output, with_part, with_picture, word, words,
 };
 use clap::Command;
 use std::alloc::{AllocError, Global};
@@ -30,19 +30,21 @@ Exit status: 0 success; 1 an error in the files, or a file that cannot be read o
 const TOP_HELP: &str = "\
 Many records, after a storm:
   comtrade list storm                    one line per record, with its greatest current
+  comtrade list -r --min-current 2000 .  the large ones, of folders within folders too
   comtrade events storm/rec1 storm/rec2  what happened, in order of time
+  comtrade fault storm                   each fault: type, inception, clearing, breaker
 
 One record:
   comtrade show rec1                     names, rates, channels, extremes, gaps
   comtrade check rec1                    its first error, or that it has none
   comtrade measure --at 20 rec1          rms values, phasors and sequence components
   comtrade detect lines rec1             when detectors of dfrd would have fired
-  comtrade plot rec1 > rec1.svg          a picture
-  comtrade page rec1 > rec1.html         a page for a browser
+  comtrade plot rec1 -o rec1.svg         a picture; with --print for paper
+  comtrade page rec1 -o rec1.html        a page for a browser
   comtrade csv --separator ';' --decimal ',' rec1 > rec1.csv
 
 Two records:
-  comtrade compare near far > both.svg   two ends of a line, aligned by time
+  comtrade compare near far -o both.svg  two ends of a line, aligned by time
   comtrade compare --by trigger old new > both.svg
 
 Other files:
@@ -111,14 +113,16 @@ fn show<'a>(alloc: Global) -> Result<Command<'a>, AllocError>
     ensures { IfOk result (IsCommand Spec.show) }
 {
     let about = "Print what a record holds: names, times, channels, extremes, changes, gaps";
-    with_json(alloc, over_part(alloc, "show", about)?)
+    let json = with_json(alloc, over_part(alloc, "show", about)?)?;
+    with_output(alloc, json)
 }
 
 fn check<'a>(alloc: Global) -> Result<Command<'a>, AllocError>
     ensures { IfOk result (IsCommand Spec.check) }
 {
     let about = "Print the first error of a pair of 1999, or that it has none";
-    with_json(alloc, over_pair(alloc, "check", about)?)
+    let json = with_json(alloc, over_pair(alloc, "check", about)?)?;
+    with_output(alloc, json)
 }
 
 fn csv<'a>(alloc: Global) -> Result<Command<'a>, AllocError>
@@ -129,21 +133,38 @@ fn csv<'a>(alloc: Global) -> Result<Command<'a>, AllocError>
     let separator = "Cell separator, such as ';' or tab";
     let decimal = "Decimal separator: . or ,";
     let one = with(part, option(alloc, "separator", "TEXT", separator))?;
-    with(one, option(alloc, "decimal", "TEXT", decimal))
+    let two = with(one, option(alloc, "decimal", "TEXT", decimal))?;
+    with_output(alloc, two)
 }
 
 fn plot<'a>(alloc: Global) -> Result<Command<'a>, AllocError>
     ensures { IfOk result (IsCommand Spec.plot) }
 {
     let part = over_part(alloc, "plot", "Draw the record as an SVG picture")?;
-    with_picture(alloc, part)
+    let picture = with_picture(alloc, part)?;
+    with_output(alloc, picture)
 }
 
 fn page<'a>(alloc: Global) -> Result<Command<'a>, AllocError>
     ensures { IfOk result (IsCommand Spec.page) }
 {
     let about = "Print a self-contained HTML page that shows the record in a browser";
-    over_part(alloc, "page", about)
+    let part = over_part(alloc, "page", about)?;
+    with_output(alloc, part)
+}
+
+/// With the options of a measurement.
+fn with_cursor(alloc: Global, command: Command<'_>) -> Result<Command<'_>, AllocError>
+    ensures { (a : App) → IsCommand a command.entry → IfOk result (IsCommand (Spec.with_cursor a)) }
+{
+    let at = "Measure the last whole cycle ending at MOMENT (same forms as --from)";
+    let reference = "The channel that angles refer to, by id or number";
+    let frequency = "The line frequency in Hz, or measured: that of the signal there";
+    let phases = "The channels of the phases A, B and C, joined by commas: ids or numbers";
+    let one = with(command, option(alloc, "at", "MOMENT", at))?;
+    let two = with(one, option(alloc, "reference", "CHANNEL", reference))?;
+    let three = with(two, option(alloc, "frequency", "HZ", frequency))?;
+    with(three, option(alloc, "phases", "NAMES", phases))
 }
 
 fn measure<'a>(alloc: Global) -> Result<Command<'a>, AllocError>
@@ -152,11 +173,9 @@ fn measure<'a>(alloc: Global) -> Result<Command<'a>, AllocError>
     let about =
         "Print fault inceptions; at a moment or in a window rms, phasors, harmonics, sequences";
     let part = over_part(alloc, "measure", about)?;
-    let at = "Measure the last whole cycle ending at MOMENT (same forms as --from)";
-    let reference = "The channel that angles refer to, by id or number";
-    let one = with(part, option(alloc, "at", "MOMENT", at))?;
-    let two = with(one, option(alloc, "reference", "CHANNEL", reference))?;
-    with_json(alloc, two)
+    let cursor = with_cursor(alloc, part)?;
+    let json = with_json(alloc, cursor)?;
+    with_output(alloc, json)
 }
 
 /// The file of detectors.
@@ -175,7 +194,8 @@ fn detect<'a>(alloc: Global) -> Result<Command<'a>, AllocError>
     let dat = "The data file, if FILE is the configuration file";
     let one = with(detect_lines(alloc)?, word(alloc, "FILE", FILE))?;
     let two = with(one, free_word(alloc, "DAT", dat))?;
-    with_json(alloc, two)
+    let json = with_json(alloc, two)?;
+    with_output(alloc, json)
 }
 
 /// A command that writes a pair. With three names the second is the data file.
@@ -249,16 +269,60 @@ fn extract<'a>(alloc: Global) -> Result<Command<'a>, AllocError>
 }
 
 /// A command over folders and files.
+fn named<'a>(alloc: Global, name: &'a str, about: &'a str) -> Result<Command<'a>, AllocError>
+    ensures { IfOk result (IsCommand (Spec.named name.entry.now)) }
+{
+    let bare = command(alloc, name, about, SURVEY_STATUS);
+    let names = "Folders with records, and records";
+    let one = with(bare, words(alloc, "NAMES", names))?;
+    with(one, recursive(alloc))
+}
+
+/// A command that lists what is in many records.
 fn over_names<'a>(alloc: Global, name: &'a str, about: &'a str) -> Result<Command<'a>, AllocError>
     ensures { IfOk result (IsCommand (Spec.over_names name.entry.now)) }
 {
-    let bare = command(alloc, name, about, SURVEY_STATUS);
-    let named = with(
-        bare,
-        words(alloc, "NAMES", "Folders with records, and records"),
-    )?;
-    let json = with_json(alloc, named)?;
-    with_encoding(alloc, json)
+    let filter = with_filter(alloc, named(alloc, name, about)?)?;
+    let json = with_json(alloc, filter)?;
+    let encoding = with_encoding(alloc, json)?;
+    with_output(alloc, encoding)
+}
+
+fn list<'a>(alloc: Global) -> Result<Command<'a>, AllocError>
+    ensures { IfOk result (IsCommand Spec.list) }
+{
+    let about = "Print one line per record, sorted by trigger time";
+    let current = "Only records whose greatest current has at least this size, in A";
+    let over = over_names(alloc, "list", about)?;
+    with(over, option(alloc, "min-current", "AMPERES", current))
+}
+
+fn events<'a>(alloc: Global) -> Result<Command<'a>, AllocError>
+    ensures { IfOk result (IsCommand Spec.events) }
+{
+    let about = "Print triggers, gaps and changes of status channels, in order of time";
+    let kinds = "Only these, joined by commas [possible values: trigger, change, gap]";
+    let over = over_names(alloc, "events", about)?;
+    let one = with(over, option(alloc, "type", "KINDS", kinds))?;
+    with(one, flag(alloc, "csv", "Print comma-separated values"))
+}
+
+/// The names of `fault`, and its longer form.
+fn fault_names<'a>(alloc: Global) -> Result<Command<'a>, AllocError>
+    ensures { IfOk result (IsCommand Spec.fault_names) }
+{
+    let about =
+        "Print each fault: type, inception, clearing, breaker time, and how certain that is";
+    let long = "Print a block for each fault: phasors, contacts, and what each conclusion rests on";
+    with(named(alloc, "fault", about)?, flag(alloc, "long", long))
+}
+
+fn fault<'a>(alloc: Global) -> Result<Command<'a>, AllocError>
+    ensures { IfOk result (IsCommand Spec.fault) }
+{
+    let json = with_json(alloc, fault_names(alloc)?)?;
+    let encoding = with_encoding(alloc, json)?;
+    with_output(alloc, encoding)
 }
 
 fn compare<'a>(alloc: Global) -> Result<Command<'a>, AllocError>
@@ -273,7 +337,8 @@ fn compare<'a>(alloc: Global) -> Result<Command<'a>, AllocError>
     let two = with(one, word(alloc, "B", "The record to overlay"))?;
     let three = with(two, option(alloc, "by", "WHAT", by))?;
     let part = with_part(alloc, three)?;
-    with_picture(alloc, part)
+    let picture = with_picture(alloc, part)?;
+    with_output(alloc, picture)
 }
 
 /// The commands that print what a record holds.
@@ -292,11 +357,10 @@ fn views<'a>(alloc: Global, program: Command<'a>) -> Result<Command<'a>, AllocEr
 fn surveys<'a>(alloc: Global, program: Command<'a>) -> Result<Command<'a>, AllocError>
     ensures { (a : App) → IsCommand a program.entry → IfOk result (IsCommand (Spec.surveys a)) }
 {
-    let list = "Print one line per record, sorted by trigger time";
-    let events = "Print triggers, gaps and changes of status channels, in order of time";
     program
-        .subcommand(over_names(alloc, "list", list)?)?
-        .subcommand(over_names(alloc, "events", events)?)?
+        .subcommand(list(alloc)?)?
+        .subcommand(events(alloc)?)?
+        .subcommand(fault(alloc)?)?
         .subcommand(compare(alloc)?)
 }
 

@@ -91,16 +91,19 @@ pub(crate) fn picture_of<'a>(found: &ArgMatches<'a>) -> Picture<'a>
         all: is_set(found, "all"),
         width: text_of(found, "width"),
         height: text_of(found, "height"),
+        print: is_set(found, "print"),
     }
 }
 
-/// A moment, and the channel from which angles are counted.
+/// A moment, and how the record is measured there.
 pub(crate) fn cursor_of<'a>(found: &ArgMatches<'a>) -> Cursor<'a>
     ensures { AreCursor (rows_of (found_of found.now)) result }
 {
     Cursor {
         at: text_of(found, "at"),
         reference: text_of(found, "reference"),
+        frequency: text_of(found, "frequency"),
+        phases: text_of(found, "phases"),
     }
 }
 

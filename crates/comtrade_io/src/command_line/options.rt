@@ -49,7 +49,7 @@ pub(crate) fn repeated<'a>(alloc: Global, name: &'a str, value: &'a str, help: &
 }
 
 /// An option without a value.
-fn flag<'a>(alloc: Global, name: &'a str, help: &'a str) -> Arg<'a>
+pub(crate) fn flag<'a>(alloc: Global, name: &'a str, help: &'a str) -> Arg<'a>
     ensures rule { rule_of result ≡ Spec.flag name.entry.now }
     ensures local { result.global ≡ false }
 {
@@ -107,7 +107,51 @@ pub(crate) fn with_picture(alloc: Global, command: Command<'_>) -> Result<Comman
     let one = with(command, flag(alloc, "whole", whole))?;
     let two = with(one, flag(alloc, "all", all))?;
     let three = with(two, option(alloc, "width", "PIXELS", "Width in pixels"))?;
-    with(three, option(alloc, "height", "PIXELS", "Height in pixels"))
+    let height = "Height in pixels";
+    let four = with(three, option(alloc, "height", "PIXELS", height))?;
+    let print = "Draw black lines of different dashes on white, for paper";
+    with(four, flag(alloc, "print", print))
+}
+
+/// The option for the file that is written.
+fn output<'a>(alloc: Global) -> Arg<'a>
+    ensures rule { rule_of result ≡ Spec.output }
+    ensures local { result.global ≡ false }
+{
+    let help = "Write FILE in place of standard output; an existing file is never overwritten";
+    option(alloc, "output", "FILE", help).short('o')
+}
+
+/// With the option for the file that is written.
+pub(crate) fn with_output(alloc: Global, command: Command<'_>) -> Result<Command<'_>, AllocError>
+    ensures { (a : App) → IsCommand a command.entry → IfOk result (IsCommand (Spec.with_output a)) }
+{
+    with(command, output(alloc))
+}
+
+/// The flag for folders within folders.
+pub(crate) fn recursive<'a>(alloc: Global) -> Arg<'a>
+    ensures rule { rule_of result ≡ Spec.recursive }
+    ensures local { result.global ≡ false }
+{
+    flag(
+        alloc,
+        "recursive",
+        "Also read the records of folders within folders",
+    )
+    .short('r')
+}
+
+/// With the options that choose records and events.
+pub(crate) fn with_filter(alloc: Global, command: Command<'_>) -> Result<Command<'_>, AllocError>
+    ensures { (a : App) → IsCommand a command.entry → IfOk result (IsCommand (Spec.with_filter a)) }
+{
+    let from = "Only from this instant on (2024-07-01T10:30 or 2024-07-01T10:30:00.35)";
+    let to = "Only up to this instant";
+    let station = "Only of the station with this name (with * as wildcard)";
+    let one = with(command, option(alloc, "from", "INSTANT", from))?;
+    let two = with(one, option(alloc, "to", "INSTANT", to))?;
+    with(two, option(alloc, "station", "NAME", station))
 }
 
 /// With the option for JSON.

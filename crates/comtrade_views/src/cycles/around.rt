@@ -25,7 +25,7 @@ const TRIED: u64 = 5;
 const LEAST: u128 = 8;
 
 /// The cycle that ends before a row.
-fn cycle_to(spans: &[Window], end: usize) -> Option<Window>
+pub(crate) fn cycle_to(spans: &[Window], end: usize) -> Option<Window>
     ensures one { IfSome result (λ window. window.cycles ≡ 1) }
     ensures rows { IfSome result (λ window. AreCycles window.cycle 1 window.from window.to) }
     ensures last { IfSome result (λ window. window.to ≡ end) }

@@ -35,6 +35,12 @@ pub enum MeasureFault {
     /// No measured channel has this name or number.
     #[error("no analogue channel has the name or number of the reference")]
     NoReference,
+    /// The names of phases aren't those of three channels of one unit.
+    #[error("--phases expects three different analogue channels of one unit, joined by commas")]
+    NoPhases,
+    /// No channel has a steady signal over two cycles.
+    #[error("the frequency cannot be measured: no steady signal over the last two cycles")]
+    NoSteady,
     /// The reference has no angle.
     #[error("the reference has no angle: a reading is missing, or it has no fundamental")]
     NoAngle,

@@ -1,8 +1,10 @@
 //! Sequence components of three phases.
 
-use crate::cycles::fit::{Measured, measured_at};
-use crate::cycles::phasor::Phasor;
-use comtrade_analysis::sequences_in;
+use crate::cycles::fault::MeasureFault;
+use crate::cycles::fit::measured_at;
+use crate::cycles::reference::place_of;
+use comtrade_analysis::{Measured, Phasor, sequences_in};
+use comtrade_format::Head;
 use comtrade_values::Memory;
 use dfr_channels::AnalogChannel;
 use std::alloc::Allocator;
@@ -35,7 +37,7 @@ impl Components {
 }
 
 /// The channels that form three phases, by the rule of `sequences_in`.
-pub fn threes_of<A: Allocator + Copy>(
+fn threes_of<A: Allocator + Copy>(
     alloc: A,
     channels: &[AnalogChannel<A>],
 ) -> Result<Vec<Three, A>, Memory> {
@@ -49,6 +51,39 @@ pub fn threes_of<A: Allocator + Copy>(
         })?;
     }
     Ok(threes)
+}
+
+/// The three channels with these names or numbers, joined by commas; None if they aren't three
+/// different ones of one unit.
+fn three_named<A: Allocator>(head: &Head<A>, names: &str) -> Option<Three> {
+    let (first, rest) = names.split_once(',')?;
+    let (second, third) = rest.split_once(',')?;
+    let channels = head.analog.items();
+    let a = place_of(head, first.trim())?;
+    let b = place_of(head, second.trim())?;
+    let c = place_of(head, third.trim())?;
+    let unit = channels.get(a)?.unit.items();
+    let is_one = channels.get(b)?.unit.items() == unit && channels.get(c)?.unit.items() == unit;
+    if a == b || a == c || b == c || !is_one {
+        return None;
+    }
+    Some(Three { a, b, c })
+}
+
+/// The channels that form three phases: those that are named, else those that `sequences_in` finds.
+/// `NoPhases`: the names aren't those of three different channels of one unit.
+pub fn threes_in<A: Allocator + Copy>(
+    alloc: A,
+    head: &Head<A>,
+    names: Option<&str>,
+) -> Result<Vec<Three, A>, MeasureFault> {
+    let Some(names) = names else {
+        return Ok(threes_of(alloc, head.analog.items())?);
+    };
+    let Some(three) = three_named(head, names) else {
+        return Err(MeasureFault::NoPhases);
+    };
+    Ok(Vec::from_slice(alloc, &[three])?)
 }
 
 /// The phasor of one channel, if it was measured.

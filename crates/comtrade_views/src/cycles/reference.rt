@@ -1,7 +1,8 @@
 //! The reference channel of angles.
 
 use crate::cycles::fault::MeasureFault;
-use crate::cycles::fit::{Measured, measured_at};
+use crate::cycles::fit::measured_at;
+use comtrade_analysis::Measured;
 use comtrade_format::Head;
 use std::alloc::Allocator;
 
@@ -15,7 +16,7 @@ fn has_angle<A: Allocator>(measures: &[Option<Measured<A>>], place: usize) -> bo
 
 /// The index of the first channel with this id (case is ignored), else of the channel with this
 /// number from 1.
-fn place_of<A: Allocator>(head: &Head<A>, name: &str) -> Option<usize> {
+pub(crate) fn place_of<A: Allocator>(head: &Head<A>, name: &str) -> Option<usize> {
     for (place, channel) in head.analog.items().iter().enumerate() {
         if channel.id.items().eq_ignore_ascii_case(name.as_bytes()) {
             return Some(place);

@@ -1,13 +1,13 @@
 //! The rows that are measured.
 
-ghost use Rattle.std.specs.Prelude.{◌≡◌, ◌+◌, ◌-◌, ◌*◌, ◌<◌, ◌≤◌, ℕ, length, IfOk, IfSome, MatchOption};
+ghost use Rattle.std.specs.Prelude.{◌≡◌, ◌==◌, ◌+◌, ◌-◌, ◌*◌, ◌%◌, ◌<◌, ◌≤◌, ℕ, length, IfOk, IfSome, MatchOption};
 ghost use Rattle.comtrade_format.specs.Cycles.{Lasts};
 ghost use Rattle.comtrade_views.specs.declared.cycles.fault.MeasureFault.TheVariants.{Short};
 ghost use Rattle.comtrade_analysis.specs.Windows.{rows_in};
 ghost use Rattle.comtrade_views.specs.Stretches.{ends_at, IsLastStretch, AreCycles, LastsAt, IsOfLastRate, IsOfOneRate};
 
 use crate::cycles::fault::MeasureFault;
-use comtrade_analysis::{cycles_within, window_before, window_from};
+use comtrade_analysis::{Window as Rows, cycles_within, orders_in, window_before, window_from};
 use comtrade_format::{Cycle, File, Head, Rate, cycle_of};
 use comtrade_values::Decimal;
 use std::alloc::Allocator;
@@ -24,8 +24,12 @@ pub struct Window {
     ghost long: { 3 * cycle.cycles ≤ cycle.rows },
 }
 
-/// The highest order that is measured.
-const HIGHEST: usize = 25;
+/// Two windows of whole cycles, one after the other.
+#[derive(Clone, Copy, Debug)]
+pub(crate) struct Two {
+    pub(crate) first: Window,
+    pub(crate) last: Window,
+}
 
 impl Window {
     /// The last row; the first one where there are none.
@@ -35,14 +39,27 @@ impl Window {
     }
 
     /// The number of orders that are measured: those below half the rows of a cycle, at most 25.
-    pub fn orders(self) -> usize
-        ensures { result ≤ 25 }
+    pub fn orders(self) -> usize {
+        orders_in(self.cycle)
+    }
+
+    /// The rows, as a window of `comtrade_analysis`.
+    pub(crate) fn rows(self) -> Rows
+        ensures first { result.first ≡ self.from }
+        ensures rows { result.rows ≡ self.to - self.from }
     {
-        let rows = self.cycle.rows_in(1);
-        if (2 * HIGHEST as u128) < rows {
-            return HIGHEST;
+        // (the windows that are measured have rows)
+        Rows {
+            first: self.from,
+            rows: self.to.saturating_sub(self.from),
         }
-        ((rows as usize).max(1) - 1) / 2
+    }
+
+    /// Whether the cycles last a whole number of rows.
+    pub(crate) fn is_even(self) -> bool
+        ensures { result ≡ ((self.cycles * self.cycle.rows) % self.cycle.cycles == 0) }
+    {
+        (self.cycles as u128 * self.cycle.rows as u128) % self.cycle.cycles as u128 == 0
     }
 }
 
@@ -150,6 +167,57 @@ fn cycle_at<A: Allocator>(head: &Head<A>, rate: usize) -> Result<Cycle, MeasureF
 {
     let rates = head.rates.items();
     Ok(cycle_of(head.line_freq, rates[rate].samp)?)
+}
+
+/// The last two whole cycles at this line frequency, of so many rows of a file, one directly after
+/// the other. Errors are those of `last_cycle`.
+pub(crate) fn last_two<A: Allocator>(
+    head: &Head<A>,
+    frequency: Decimal,
+    rows: usize,
+) -> Result<Two, MeasureFault>
+    ensures first { IfOk result (λ two. AreCycles two.first.cycle 1 two.first.from two.first.to) }
+    ensures last { IfOk result (λ two. AreCycles two.last.cycle 1 two.last.from two.last.to) }
+    ensures next { IfOk result (λ two. (two.first.to ≡ two.last.from) × (two.last.to ≡ rows)) }
+{
+    let stretch = last_rate(head, rows)?;
+    let rates = head.rates.items();
+    let cycle = cycle_of(frequency, rates[stretch.rate].samp)?;
+    let last = last_of(cycle, stretch.from, rows)?;
+    let first = last_of(cycle, stretch.from, last.from)?;
+    Ok(Two { first, last })
+}
+
+/// The first and the last half of a window's cycles, at this line frequency. `Short`: it has fewer
+/// than two. Other errors are those of `last_cycle`.
+pub(crate) fn halves_of<A: Allocator>(
+    head: &Head<A>,
+    frequency: Decimal,
+    rows: usize,
+) -> Result<Two, MeasureFault> {
+    let stretch = last_rate(head, rows)?;
+    let rates = head.rates.items();
+    let cycle = cycle_of(frequency, rates[stretch.rate].samp)?;
+    let half = cycles_within(cycle, rows - stretch.from) / 2;
+    let first = window_from(cycle, half, stretch.from, rows);
+    let last = window_before(cycle, half, rows);
+    match (first, last) {
+        (Some(first), Some(last)) if half != 0 => Ok(Two {
+            first: Window {
+                from: stretch.from,
+                to: stretch.from + first.rows,
+                cycles: half,
+                cycle,
+            },
+            last: Window {
+                from: last.first,
+                to: rows,
+                cycles: half,
+                cycle,
+            },
+        }),
+        _ => Err(too_short(cycle, stretch.from, rows)),
+    }
 }
 
 /// The last whole cycle of a file, at the rate of its last row. `NoFrequency`, `NoRate`, `Digits`,

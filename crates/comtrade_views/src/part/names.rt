@@ -12,7 +12,7 @@ pub(crate) struct Channels<A: Allocator> {
 }
 
 /// Whether a text matches a pattern in which * stands for any characters. Case is ignored.
-fn fits<'x>(name: &'x [u8], text: &'x [u8]) -> bool {
+pub(crate) fn fits<'x>(name: &'x [u8], text: &'x [u8]) -> bool {
     let mut match_so_far = Some(Matched {
         name,
         text,

@@ -12,4 +12,5 @@ fn main() {
         println!("cargo:rustc-link-search=native={}", beside.display());
     }
     println!("cargo:rustc-link-lib=static=comtrade");
+    println!("cargo:rustc-link-lib=m");
 }

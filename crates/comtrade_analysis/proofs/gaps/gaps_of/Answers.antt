@@ -1,7 +1,6 @@
-use Rattle.std.proofs.Common.{◌≡◌, ◌+◌, List, [], ◌∷◌, ◌++◌, map, Option, Some, None, option_map, sym, ap, ◌∙◌, arith}
+use Rattle.std.proofs.Common.{◌≡◌, ◌+◌, List, [], ◌∷◌, ◌++◌, Some, None, option_map, sym, ap, ◌∙◌, arith}
 use Rattle.std.proofs.lemmas.List.{map_push}
 use Rattle.comtrade_analysis.specs.Gaps.{Run, run_of, gap_at, gaps_before}
-use Rattle.comtrade_analysis.specs.declared.runs.Gap.{Gap}
 use Rattle.comtrade_analysis.proofs.Ranges.{some_more, none_more}
 use Rattle.comtrade_analysis.proofs.gaps.gaps_of.Goals as goal
 use Rattle.comtrade_analysis.proofs.gaps.gaps_of.Goals.{in-Some+in_ok-push, in_default}

@@ -1,5 +1,4 @@
-use Rattle.std.proofs.Common.{◌≡◌, max, take}
-use Rattle.std.specs.Prelude.{fold}
+use Rattle.std.proofs.Common.{◌≡◌, take}
 use Rattle.comtrade_analysis.specs.Outages.{most_missing}
 use Rattle.comtrade_analysis.proofs.outages.most_missing.Given as goal
 

@@ -1,7 +1,6 @@
-use Rattle.std.proofs.Common.{◌≡◌, ◌+◌, List, [], ◌∷◌, ◌++◌, map, Option, Some, None, option_map, sym, ap, ◌∙◌, arith}
+use Rattle.std.proofs.Common.{◌≡◌, ◌+◌, List, [], ◌∷◌, ◌++◌, Some, None, option_map, sym, ap, ◌∙◌, arith}
 use Rattle.std.proofs.lemmas.List.{map_push}
 use Rattle.comtrade_analysis.specs.Outages.{Run, run_of, outage_at, outages_before}
-use Rattle.comtrade_analysis.specs.declared.runs.Outage.{Outage}
 use Rattle.comtrade_analysis.proofs.Ranges.{some_more, none_more}
 use Rattle.comtrade_analysis.proofs.outages.outages_of.Goals as goal
 use Rattle.comtrade_analysis.proofs.outages.outages_of.Goals.{in-Some+in_ok-push, in_default}

@@ -1,6 +1,5 @@
-use Rattle.std.proofs.Common.{◌≡◌, ap, sym, ◌∙◌, List, ℕ}
+use Rattle.std.proofs.Common.{◌≡◌, ap, sym, ◌∙◌}
 use Rattle.dfr_channels.specs.Parts.{AnalogParts}
-use Rattle.comtrade_analysis.specs.Phases.{phase_in}
 use Rattle.comtrade_analysis.proofs.PhaseFields.{by_id, by_phase}
 use Rattle.comtrade_analysis.proofs.phases.phase_of.Goals as goal
 

@@ -1,4 +1,4 @@
-use Rattle.std.proofs.Common.{◌≡◌, ℕ, ◌+◌, ◌<◌, ◌≤◌, length, get_or, sym, arith}
+use Rattle.std.proofs.Common.{ℕ, ◌+◌, ◌<◌, length, sym, arith}
 use Rattle.comtrade_analysis.specs.Surveys.{IsSurvey}
 use Rattle.comtrade_analysis.specs.declared.surveys.Survey.{Survey}
 use Rattle.comtrade_analysis.proofs.InPlace.{written, unwritten}

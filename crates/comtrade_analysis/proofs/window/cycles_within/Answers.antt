@@ -1,4 +1,4 @@
-use Rattle.std.proofs.Common.{◌≡◌, ℕ, ◌+◌, ◌-◌, ◌*◌, ◌/◌, ◌≤◌, ◌↔◌, sym, subst, arith}
+use Rattle.std.proofs.Common.{ℕ, ◌≤◌, ◌↔◌, sym, subst, arith}
 use Rattle.comtrade_analysis.specs.Windows.{rows_in}
 use Rattle.comtrade_analysis.proofs.WholeCycles.{most_fits, most_cycles}
 use Rattle.comtrade_analysis.proofs.window.cycles_within.Goals as goal

@@ -156,8 +156,14 @@ struct Starving<'a> {
 }
 
 impl Store for Starving<'_> {
-    fn put(&mut self, key: Key, cfg: &[u8], dat: &[u8]) -> Result<Stored, Trouble> {
-        let stored = self.kept.put(key, cfg, dat);
+    fn put(
+        &mut self,
+        key: Key,
+        cfg: &[u8],
+        dat: &[u8],
+        header: Option<&[u8]>,
+    ) -> Result<Stored, Trouble> {
+        let stored = self.kept.put(key, cfg, dat, header);
         if stored.is_ok() {
             self.heap.refuse_all();
         }

@@ -5,8 +5,8 @@ use crate::streams::Pieces;
 use comtrade_write::Kind;
 use dfr_setup::{Prepared, prepared_of};
 use dfr_station::{
-    Event, First, Input, Key, Printer, Recorded, Run, RunFault, Station, Store, Stored, Trouble,
-    finish_station, put_event, read_first, run_station,
+    Event, First, Headers, Input, Key, Printer, Recorded, Run, RunFault, Station, Store, Stored,
+    Trouble, finish_station, put_event, read_first, run_station,
 };
 use std::alloc::{Allocator, Global};
 use std::io;
@@ -58,7 +58,13 @@ pub struct Kept {
 }
 
 impl Store for Kept {
-    fn put(&mut self, key: Key, cfg: &[u8], dat: &[u8]) -> Result<Stored, Trouble> {
+    fn put(
+        &mut self,
+        key: Key,
+        cfg: &[u8],
+        dat: &[u8],
+        _header: Option<&[u8]>,
+    ) -> Result<Stored, Trouble> {
         if self.troubles > 0 || cfg.is_empty() {
             self.troubles = self.troubles.saturating_sub(1);
             return Err(Trouble::Full);
@@ -139,6 +145,7 @@ fn station_of<A: Allocator>(prepared: Prepared<A>, form: Input) -> Station<A> {
         operator: None,
         waits: false,
         gap: 0,
+        chatter: None,
     }
 }
 
@@ -179,14 +186,24 @@ pub fn recorded<
         return (Err(RunFault::Memory), store);
     };
     let station = station_of(prepared, form);
+    let headers: Option<Headers<A>> = None;
+    let headers = headers.as_ref();
     let Run {
         recorded,
         input: _,
         mut store,
-    } = run_station(rt, alloc, station, first, input, store, printer);
+    } = run_station(rt, alloc, station, headers, first, input, store, printer);
     match recorded {
         Ok(mut left) => {
-            finish_station(rt, alloc, Kind::Ascii, &mut left, &mut store, printer);
+            finish_station(
+                rt,
+                alloc,
+                Kind::Ascii,
+                headers,
+                &mut left,
+                &mut store,
+                printer,
+            );
             (Ok(left), store)
         }
         Err(fault) => (Err(fault), store),

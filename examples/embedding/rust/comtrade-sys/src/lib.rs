@@ -73,6 +73,27 @@ pub struct comtrade_rate {
     pub endsamp: u64,
 }
 
+pub const ORDERS: usize = 25;
+
+#[repr(C)]
+#[derive(Clone, Copy, Debug, Default)]
+pub struct comtrade_measure {
+    pub size: usize,
+    pub first: usize,
+    pub rows: usize,
+    pub rms: f64,
+    pub re: f64,
+    pub im: f64,
+    pub dc: f64,
+    pub fall: f64,
+    pub peak: f64,
+    pub residual: f64,
+    pub peak_row: usize,
+    pub orders: usize,
+    pub order: [f64; ORDERS],
+    pub has_angle: bool,
+}
+
 #[repr(C)]
 #[derive(Clone, Copy)]
 pub struct comtrade_analog_setup {
@@ -136,6 +157,8 @@ unsafe extern "C" {
     pub fn comtrade_bits(record: *const comtrade, channel: usize, first: usize, count: usize, to: *mut u8) -> i32;
     pub fn comtrade_stamps(record: *const comtrade, first: usize, count: usize, to: *mut u64) -> i32;
     pub fn comtrade_times(record: *const comtrade, first: usize, count: usize, to: *mut i64) -> i32;
+    pub fn comtrade_rms(record: *const comtrade, channel: usize, first: usize, count: usize, rms: *mut f64) -> i32;
+    pub fn comtrade_measure(record: *const comtrade, channel: usize, row: usize, cycles: u32, measure: *mut comtrade_measure) -> i32;
     pub fn comtrade_explain(cfg: *const u8, cfg_length: usize, dat: *const u8, dat_length: usize, buffer: *mut c_char, room: usize, needed: *mut usize) -> i32;
     pub fn comtrade_fault_text(fault: *const comtrade_fault, buffer: *mut c_char, room: usize, needed: *mut usize) -> i32;
     pub fn comtrade_write(setup: *const comtrade_setup, cfg: *mut *mut u8, cfg_length: *mut usize, dat: *mut *mut u8, dat_length: *mut usize, fault: *mut comtrade_fault) -> i32;

@@ -17,7 +17,7 @@ pub enum Error {
     /// An allocation failed.
     Memory,
     /// Another answer of the library, by its number in comtrade.h: no such channel, rate or row, or columns of different lengths (6), or a
-    /// text with a zero in it (9).
+    /// text with a zero in it (9); nothing that can be measured (11).
     Other(i32),
 }
 
@@ -160,6 +160,20 @@ impl Record {
     /// The time of each row in nanoseconds since the first row; `NO_TIME` if neither a rate nor a time stamp gives it.
     pub fn times(&self) -> Result<Vec<i64>, Error> {
         self.column(0, 0, |at, _, n, to| unsafe { sys::comtrade_times(at, 0, n, to) })
+    }
+
+    /// The rms value of an analogue channel over `count` rows from row `first` on.
+    pub fn rms(&self, channel: usize, first: usize, count: usize) -> Result<f64, Error> {
+        let mut rms = 0.0;
+        done(unsafe { sys::comtrade_rms(self.at, channel, first, count, &mut rms) })?;
+        Ok(rms)
+    }
+
+    /// What is measured of an analogue channel over the last `cycles` whole cycles that end with a row.
+    pub fn measure(&self, channel: usize, row: usize, cycles: u32) -> Result<sys::comtrade_measure, Error> {
+        let mut said = sys::comtrade_measure { size: size_of::<sys::comtrade_measure>(), ..Default::default() };
+        done(unsafe { sys::comtrade_measure(self.at, channel, row, cycles, &mut said) })?;
+        Ok(said)
     }
 
     fn column<T: Copy>(&self, channel: usize, zero: T, call: impl Fn(*const sys::comtrade, usize, usize, *mut T) -> i32) -> Result<Vec<T>, Error> {

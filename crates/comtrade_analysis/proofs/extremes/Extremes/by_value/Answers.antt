@@ -1,4 +1,4 @@
-use Rattle.std.proofs.Common.{ℤ, pos, ◌<ℤ◌, ◌≤ℤ◌, arith}
+use Rattle.std.proofs.Common.{pos, ◌<ℤ◌, ◌≤ℤ◌, arith}
 use Rattle.std.proofs.lemmas.Int.{ints}
 use Rattle.comtrade_analysis.proofs.ValueOrder.{same_order, other_order}
 use Rattle.comtrade_analysis.proofs.extremes.Extremes.by_value.Goals as goal

@@ -1,7 +1,4 @@
 use Rattle.comtrade_io.proofs.command_line.commands.measure.Goals as goal
 
 pub returns : goal.returns
-returns c =
-    let one = c.in_ok-one.ensures _ _ c.in_ok-part.ensures c.option.ensures.rule c.option.ensures.local in
-    let two = c.in_ok-two.ensures _ _ one c.option-2.ensures.rule c.option-2.ensures.local in
-    c.with_json.ensures _ two
+returns c = c.with_output.ensures _ (c.in_ok-json.ensures _ (c.in_ok-cursor.ensures _ c.in_ok-part.ensures))

@@ -1,0 +1,129 @@
+//! The faults of many records.
+
+use crate::content::{NO_ENCODING, Reading, encoding_of, file_spelled};
+use crate::folder::{Pairs, pairs_of};
+use crate::load::{Inputs, read_record};
+use crate::output::put_out;
+use crate::survey::{NOT_UTF8, say_repairs};
+use crate::zones::to_zone_of;
+use crate::{complain, say};
+use bumpalo::Bump;
+use comtrade_diagnostics::Zone;
+use comtrade_io::{Diagnosed, Names, ToolFault};
+use comtrade_values::put;
+use comtrade_views::{Faults, faults_of, put_fault_blocks, put_fault_lines, put_faults_json};
+use std::alloc::Global;
+use std::rt::Files;
+
+/// Why a record is not among those that were read; what it is stands on standard error.
+const UNREAD: &[u8] = b"its files cannot be read";
+
+/// Adds a record whose files were read. Its lists are released in one step.
+fn add_inputs<R: AllocGlobal + Eprint>(
+    rt: &R,
+    encoding: Option<&str>,
+    zone: &mut Option<Zone>,
+    faults: &mut Faults,
+    inputs: &Inputs,
+    name: &str,
+) -> Result<(), ToolFault> {
+    let lists = Bump::new(rt.alloc());
+    let mut said = Vec::new(&lists);
+    match file_spelled(&lists, inputs, Reading::to_list(encoding, false), &mut said)? {
+        Some(mut loaded) => {
+            to_zone_of(zone, &mut loaded, &mut said)?;
+            say_repairs(rt, name, &said)?;
+            let alloc = rt.alloc();
+            faults.add(faults_of(alloc, &lists, &loaded.file, name.as_bytes())?)?;
+        }
+        None => {
+            say(rt, &said);
+            faults.add_unread(rt.alloc(), name.as_bytes(), &said)?;
+        }
+    }
+    Ok(())
+}
+
+/// Adds the records, one after the other.
+fn add_pairs<R: Files + Input + Eprint + AllocGlobal + Clone + Drop>(
+    rt: &R,
+    encoding: Option<&str>,
+    faults: &mut Faults,
+    pairs: &[String],
+) -> Result<(), ToolFault> {
+    let mut zone = None;
+    for pair in pairs {
+        let name = Names {
+            file: pair.as_str(),
+            dat: None,
+        };
+        match read_record(rt, name, false) {
+            Some(inputs) => add_inputs(rt, encoding, &mut zone, faults, &inputs, pair.as_str())?,
+            None => faults.add_unread(rt.alloc(), pair.as_str().as_bytes(), UNREAD)?,
+        }
+    }
+    Ok(())
+}
+
+/// Adds the names that are not UTF-8.
+fn add_odd<R: Eprint + AllocGlobal>(
+    rt: &R,
+    faults: &mut Faults,
+    names: &[Vec<u8>],
+) -> Result<(), ToolFault> {
+    for name in names {
+        let mut text = Vec::from_slice(rt.alloc(), name)?;
+        put(&mut text, NOT_UTF8)?;
+        say(rt, &text);
+        faults.add_unread(rt.alloc(), name, &text)?;
+    }
+    Ok(())
+}
+
+/// The faults of records as text: lines, blocks or JSON.
+fn text_of(alloc: Global, asked: &Diagnosed<'_>, faults: &Faults) -> Result<Vec<u8>, ToolFault> {
+    let mut out = Vec::new(alloc);
+    if asked.json {
+        put_faults_json(alloc, &mut out, faults)?;
+    } else if asked.long {
+        put_fault_blocks(alloc, &mut out, faults)?;
+    } else {
+        put_fault_lines(alloc, &mut out, faults)?;
+    }
+    Ok(out)
+}
+
+/// The faults of these records.
+fn diagnosed<R: Files + Input + Eprint + AllocGlobal + Clone + Drop>(
+    rt: &R,
+    asked: &Diagnosed<'_>,
+    pairs: &Pairs,
+) -> Result<(Vec<u8>, bool), ToolFault> {
+    let mut faults = Faults::new(rt.alloc());
+    add_odd(rt, &mut faults, &pairs.odd)?;
+    add_pairs(rt, asked.encoding, &mut faults, &pairs.names)?;
+    faults.sort()?;
+    let is_sound = faults.is_sound() && pairs.is_whole;
+    Ok((text_of(rt.alloc(), asked, &faults)?, is_sound))
+}
+
+/// Prints the faults of the named records. The status is 1 if one cannot be read.
+pub(crate) fn run_fault<R: Files + Input + Print + Eprint + AllocGlobal + Clone + Drop>(
+    rt: &R,
+    asked: &Diagnosed<'_>,
+) -> u8 {
+    if encoding_of(asked.encoding).is_none() {
+        say(rt, NO_ENCODING.as_bytes());
+        return 1;
+    }
+    let Ok(pairs) = pairs_of(rt, &asked.names, asked.recursive) else {
+        return 1;
+    };
+    match diagnosed(rt, asked, &pairs) {
+        Ok((text, is_sound)) => {
+            let status = put_out(rt, asked.output, &text);
+            if is_sound { status } else { 1 }
+        }
+        Err(fault) => complain(rt, "records", fault),
+    }
+}

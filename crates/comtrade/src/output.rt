@@ -1,0 +1,27 @@
+//! Where the output goes: standard output, or a new file.
+
+use crate::print_bytes;
+use crate::write::write_new;
+use std::rt::Files;
+
+/// The file that is written in place of standard output, if one is named; `-` is standard output.
+pub(crate) fn named_file(output: Option<&str>) -> Option<&str> {
+    match output {
+        Some("-") => None,
+        _ => output,
+    }
+}
+
+/// Prints bytes, or writes them to the file that is named, which must not exist yet. What fails is
+/// printed.
+pub(crate) fn put_out<R: Files + Print + Eprint + AllocGlobal>(
+    rt: &R,
+    output: Option<&str>,
+    bytes: &[u8],
+) -> u8 {
+    match named_file(output) {
+        Some(name) if write_new(rt, name, bytes) => 0,
+        Some(_) => 1,
+        None => print_bytes(rt, bytes),
+    }
+}

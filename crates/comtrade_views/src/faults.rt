@@ -1,0 +1,20 @@
+//! The faults of a record: what they are, how they went, and what that rests on.
+
+mod block;
+mod contacts;
+mod fault;
+mod known;
+mod members;
+mod none;
+mod of_record;
+mod parts;
+mod phasors;
+mod role;
+mod signs;
+mod table;
+mod told;
+mod words;
+
+pub use members::RecordFaults;
+pub use of_record::faults_of;
+pub use told::{Faults, put_fault_blocks, put_fault_lines, put_faults_json};
