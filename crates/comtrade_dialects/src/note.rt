@@ -137,17 +137,6 @@ impl<A: Allocator> Model for Notes<A> {
     ghost view = { λ n. n.list.items };
 }
 
-/// Where the note with this key is, if there is one.
-fn place_of<A: Allocator>(notes: &[Note<A>], key: Key) -> Option<usize> {
-    for at in 0..notes.len() {
-        let note: &Note<A> = &notes[at];
-        if note.key() == key {
-            return Some(at);
-        }
-    }
-    None
-}
-
 impl<A: Allocator + Copy> Notes<A> {
     /// No notes.
     pub fn new(alloc: A) -> Notes<A>
@@ -195,13 +184,20 @@ impl<A: Allocator + Copy> Notes<A> {
 
     /// Whether there is a note with this key.
     pub(crate) fn has(&self, key: Key) -> bool {
-        place_of(&self.list, key).is_some()
+        for note in self.list.iter() {
+            if note.key == key {
+                return true;
+            }
+        }
+        false
     }
 
     /// Notes a repair, with what was there before.
     pub fn tell(&mut self, key: Key, place: Place, piece: &[u8]) -> Result<(), AllocError> {
-        if let Some(at) = place_of(&self.list, key) {
-            return self.list[at].add(place, piece);
+        for note in self.list.iter_mut() {
+            if note.key == key {
+                return note.add(place, piece);
+            }
         }
         let mut note = Note {
             key,
