@@ -17,6 +17,8 @@ QUIET = {"revision-1991", "revision-2013", "sides-absent", "years-2-digits", "da
 # What import tells of texts that the views show as they are.
 UNTOLD = {"bom", "texts-not-ascii", "text-long", "phase-long", "unit-empty", "ids-alike",
           "text-nul", "text-comma"}
+# What import tells of and leaves as it is, so that it is told of what import wrote, too.
+KEPT = {"a-zero", "trigger-before-first", "status-spare-bits"}
 # What is told of samples that a written pair can't hold, and of their ranges: import writes
 # 16 bits, the views show 32.
 OF_SIZE = {"values-rounded", "values-wide", "range-form"}

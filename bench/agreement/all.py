@@ -9,7 +9,7 @@ import measures
 import pages
 import pictures
 import traces
-from against import keys_of, read_plainly, with_model, OF_SIZE, QUIET, UNTOLD
+from against import keys_of, read_plainly, with_model, KEPT, OF_SIZE, QUIET, UNTOLD
 from views import Page, Picture, Rows, Shown, as_json, run
 
 HAS_LIBRARY = bool(os.environ.get("DFR_COMTRADE_LIBRARY"))
@@ -126,7 +126,8 @@ def with_library(names, keys, show, written):
 def with_import(comtrade, record, names, rows, keys, folder, show):
     new = os.path.join(folder, "new")
     status, out, said = run(comtrade, "csv", new)
-    if status != 0 or said:
+    told = keys_of(said)
+    if status != 0 or len(told) != said.count("\n") or not told <= KEPT & keys:
         yield "csv of what import wrote: status %d: %s" % (status, said.strip()[-200:])
         return
     written = Rows(out, len(show["analog"]))
