@@ -203,7 +203,7 @@ function fitOf({ length, count }) {
       if (i === k && !(rest > cells[k][k] * 1e-10)) return null;
       cells[i][k] = i === k ? Math.sqrt(rest) : rest / cells[k][k];
     }
-  return { terms, cells, side };
+  return withLine({ terms, cells, side });
 }
 
 /** The parts of a signal whose products with the terms have these sums. */
@@ -220,6 +220,22 @@ function solve({ cells, side }, sums) {
   return parts;
 }
 
+/** The fit, and the straight line through its rows, from 1/2 before them to 1/2 after them: its heights, its parts, and what these leave. */
+function withLine(fit) {
+  const count = fit.terms.length, heights = fit.terms.map((_, i) => (i + 0.5) / count - 0.5), sums = new Float64Array(fit.side);
+  fit.terms.forEach((terms, i) => { for (let k = 0; k < fit.side; k++) sums[k] += heights[i] * terms[k]; });
+  const line = solve(fit, sums);
+  return { ...fit, heights, line, left: heights.reduce((rest, h) => rest + h * h, 0) - sums.reduce((rest, sum, i) => rest + sum * line[i], 0) };
+}
+
+/** Whether the dc part is taken as a line, since it decays and the rows show that clearly, by the rule of `comtrade measure`. */
+function isLine(mean, fall, before, after, spare, peak) {
+  const size = Math.abs(mean), drop = Math.abs(fall);
+  const isStraight = 9 * after <= before && after * fall * fall <= 0.04 * 0.04 * before * mean * mean;
+  return spare >= 12 && mean * fall > 0 && 0.001 * peak <= drop && drop <= 2 * size && 0.03 * peak <= size &&
+    40 * after <= (before - after) * spare && (0.12 * peak <= size || isStraight);
+}
+
 /** The rms value of the last whole cycle that ends at a row and has one rate, and the rms value and angle of its fundamental, with the channel's
     skew; null where there is no such cycle, or a reading is missing. */
 function cycleValues(channel, row) {
@@ -229,17 +245,23 @@ function cycleValues(channel, row) {
   const { fit, count } = stretch;
   if (!fit) return null;
   const sums = new Float64Array(fit.side);
-  let squares = 0, peak = 0;
+  let squares = 0, peak = 0, product = 0;
   for (let i = 0; i < count; i++) {
     const value = valueAt(channel, row + 1 - count + i), terms = fit.terms[i];
     if (value === null) return null;
     for (let k = 0; k < fit.side; k++) sums[k] += value * terms[k];
     squares += value * value;
+    product += value * fit.heights[i];
     peak = Math.max(peak, Math.abs(value));
   }
   const parts = solve(fit, sums);
-  let square = parts[0] ** 2 + Math.max(0, sums.reduce((rest, sum, i) => rest - sum * parts[i], squares)) / count;
+  const before = Math.max(0, sums.reduce((rest, sum, i) => rest - sum * parts[i], squares));
+  let square = parts[0] ** 2 + before / count;
   for (let k = 1; k < fit.side; k++) square += parts[k] ** 2 / 2;
+  const part = sums.reduce((rest, sum, i) => rest - sum * fit.line[i], product) / fit.left;
+  const after = Math.max(0, before - part * part * fit.left);
+  if (isLine(parts[0] - part * fit.line[0], -part, before, after, count - fit.side - 1, peak))
+    for (let k = 0; k < fit.side; k++) parts[k] -= part * fit.line[k];
   const size = Math.hypot(parts[1], parts[2]) / Math.SQRT2;
   const angle = (Math.atan2(-parts[2], parts[1]) * 180) / Math.PI - channel.skew * 1e-6 * head.hertz * 360;
   return { rms: Math.sqrt(square), size, angle, hasAngle: peak * 1e-9 < size };
