@@ -1,11 +1,11 @@
 //! Files of events, as `dfrd` writes them.
 
-use crate::{LIMIT, complain, is_folder, say};
+use crate::{LIMIT, complain, say};
 use comtrade_io::{ToolFault, fault_of, put_safe, read_up_to};
 use comtrade_values::{put, put_number};
 use comtrade_views::EVENT_HEAD;
 use std::alloc::{AllocError, Global};
-use std::fs::File;
+use std::fs::{self, File};
 use std::io::Read;
 use std::rt::Files;
 
@@ -46,12 +46,21 @@ fn refuse<R: Eprint + AllocGlobal>(rt: &R, name: &str) -> Result<(), AllocError>
     Ok(())
 }
 
+/// Whether a name is that of a plain file, which has the same bytes when it is opened again. A pipe
+/// hasn't.
+fn is_plain<R: Files>(rt: &R, name: &str) -> bool {
+    match fs::metadata(rt, name) {
+        Ok(data) => data.is_file(),
+        Err(_) => false,
+    }
+}
+
 /// What this name stands for.
 pub(crate) fn event_file_named<R: Files + Eprint + AllocGlobal>(
     rt: &R,
     name: &str,
 ) -> Result<Named, AllocError> {
-    if name == "-" || is_folder(rt, name) {
+    if name == "-" || !is_plain(rt, name) {
         return Ok(Named::Other);
     }
     let Ok(mut file) = File::open(rt, name) else {
