@@ -2,6 +2,7 @@
 
 use crate::content::Loaded;
 use comtrade_diagnostics::Zone;
+use comtrade_format::Head;
 use comtrade_io::ToolFault;
 use comtrade_values::put;
 use std::alloc::{AllocError, Allocator};
@@ -18,6 +19,32 @@ fn put_moved<A: Allocator>(said: &mut Vec<u8, A>, from: Zone, to: Zone) -> Resul
     put(said, ")\n")
 }
 
+/// The time code of a record and the one to which it is moved: that of the first record that has
+/// one, which is kept in `first`. None where both are the same, or the record has none.
+fn move_of(first: &mut Option<Zone>, own: Option<Zone>) -> Option<(Zone, Zone)> {
+    let own = own?;
+    let Some(zone) = *first else {
+        *first = Some(own);
+        return None;
+    };
+    if zone == own {
+        return None;
+    }
+    Some((own, zone))
+}
+
+/// Moves the instants of a record to another time code; false where they are no instants there.
+fn move_head<A: Allocator>(head: &mut Head<A>, from: Zone, to: Zone) -> bool {
+    // (no year of four digits is so far)
+    let (Some(first), Some(trigger)) = (from.moved(head.first, to), from.moved(head.trigger, to))
+    else {
+        return false;
+    };
+    head.first = first;
+    head.trigger = trigger;
+    true
+}
+
 /// Moves the instants of a record to the time code of the first record that has one, which is kept
 /// in `first`. `said` gets a line if they were moved.
 pub(crate) fn to_zone_of<A: Allocator>(
@@ -25,23 +52,10 @@ pub(crate) fn to_zone_of<A: Allocator>(
     loaded: &mut Loaded<A>,
     said: &mut Vec<u8, A>,
 ) -> Result<(), ToolFault> {
-    let Some(own) = loaded.zone else {
-        return Ok(());
-    };
-    let Some(zone) = *first else {
-        *first = Some(own);
-        return Ok(());
-    };
-    if zone == own {
-        return Ok(());
+    if let Some((from, to)) = move_of(first, loaded.zone)
+        && move_head(&mut loaded.file.head, from, to)
+    {
+        put_moved(said, from, to)?;
     }
-    let head = &mut loaded.file.head;
-    let instants = (own.moved(head.first, zone), own.moved(head.trigger, zone));
-    let (Some(first), Some(trigger)) = instants else {
-        return Ok(()); // (no year of four digits is so far)
-    };
-    head.first = first;
-    head.trigger = trigger;
-    put_moved(said, own, zone)?;
     Ok(())
 }
