@@ -1,5 +1,5 @@
-/* glibc 2.35 gave hypot a new version, which libcomtrade.so.1 would ask for. It has to run with glibc 2.28, so it is linked with
- * -Wl,--wrap=hypot and calls this instead. */
+/* glibc 2.35 gave hypot a new version, which libcomtrade.so.1 would ask for. It has to run with
+ * glibc 2.28, so it is linked with -Wl,--wrap=hypot and calls this instead. */
 #include <math.h>
 
 double __wrap_hypot(double x, double y);
