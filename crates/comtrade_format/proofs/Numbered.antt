@@ -3,6 +3,7 @@ use Rattle.std.proofs.Common.{◌≡◌, ℕ, zero, suc, ◌+◌, ◌<◌, Optio
 use Rattle.std.proofs.Math.Seq.{drop-cons}
 use Rattle.std.proofs.lemmas.List.{drop_all}
 use Rattle.std.proofs.lemmas.Bool.{and_parts, and_from}
+use Rattle.dfr_channels.proofs.Lawful.{or-none, unless-none}
 use Rattle.dfr_channels.specs.declared.scan.Reading.{Reading}
 use Rattle.comtrade_format.specs.Parts.{RowParts}
 use Rattle.comtrade_format.specs.declared.fault.WriteFault.{WriteFault}
@@ -19,10 +20,6 @@ first_from-step f n xs i d h =
     let s : n + i + 1 ≡ n + (i + 1) = omega arith in
     rw (e, s, add-one) refl
 
-pub or-none : {F : Type 0} (a b : Option F) → (a or b) ≡ None → (a ≡ None) × (b ≡ None)
-or-none None b e = (refl, e)
-or-none (Some x) b e = cc
-
 -- where nothing is found, f finds nothing at any item
 pub first_from-none : {X F : Type 0} (f : ℕ → X → Option F) (n : ℕ) (xs : List X) (i : ℕ) (d : X) → i < length xs → first_from f n xs ≡ None → f (n + i) (get_or xs i d) ≡ None
 first_from-none f n [] i d h e = absurd (omega arith)
@@ -35,14 +32,10 @@ first_from-none f n (x ∷ xs) (suc i) d h e =
     let s : n + suc i ≡ n + 1 + i = omega arith in
     rw s (first_from-none f (n + 1) xs i d (omega arith) p.1)
 
-pub unless_none : (b : Bool) (e : WriteFault) → fault_unless b e ≡ None → b ≡ true
-unless_none true e h = refl
-unless_none false e h = cc
-
 pub reading_taken : (m : Bounds) (row : ℕ) (values : List Reading) (i : ℕ) (d : Reading) → i < length values → values_refusal m row values ≡ None → takes_reading m (get_or values i d) ≡ true
 unfolding values_from
 reading_taken m row values i d h e =
-    unless_none _ _ (first_from-none (λ channel v. fault_unless (takes_reading m v) (faults.Value row channel)) 1 values i d h e)
+    unless-none _ _ (first_from-none (λ channel v. fault_unless (takes_reading m v) (faults.Value row channel)) 1 values i d h e)
 
 pub values_taken : (m : Bounds) (rows : List RowParts) (i : ℕ) (d : RowParts) → i < length rows → value_refusal m rows ≡ None → values_refusal m (1 + i) (get_or rows i d).values ≡ None
 unfolding rows_from
@@ -51,7 +44,7 @@ values_taken m rows i d h e = first_from-none (λ row r. values_refusal m row r.
 pub times_taken : (m : Bounds) (rows : List RowParts) (i : ℕ) (d : RowParts) → i < length rows → stamp_refusal m rows ≡ None → takes_times m (get_or rows i d) ≡ true
 unfolding stamps_from
 times_taken m rows i d h e =
-    unless_none _ _ (first_from-none (λ row r. fault_unless (takes_times m r) (faults.Stamp row)) 1 rows i d h e)
+    unless-none _ _ (first_from-none (λ row r. fault_unless (takes_times m r) (faults.Stamp row)) 1 rows i d h e)
 
 none_left : {X F : Type 0} (f : ℕ → X → Option F) (n i : ℕ) (xs : List X) → length xs ≤ i → first_from f n (drop i xs) ≡ None
 none_left f n i xs h = rw (drop_all i xs h) refl
@@ -167,7 +160,7 @@ unfolding values_from
 values_all m row n [] e = refl
 values_all m row n (v ∷ values) e =
     let p = or-none (fault_unless (takes_reading m v) (faults.Value row n)) (values_from m row (n + 1) values) e in
-    and_from _ _ (unless_none (takes_reading m v) (faults.Value row n) p.0) (values_all m row (n + 1) values p.1)
+    and_from _ _ (unless-none (takes_reading m v) (faults.Value row n) p.0) (values_all m row (n + 1) values p.1)
 
 -- rows that are all taken have no refusal, and rows with no refusal are all taken
 pub taken_none : (m : Bounds) (n : ℕ) (rows : List RowParts) → list_all (takes_row m) rows ≡ true → (rows_from m n rows ≡ None) × (stamps_from m n rows ≡ None)
@@ -186,7 +179,7 @@ none_taken m n [] e f = refl
 none_taken m n (r ∷ rows) e f =
     let p = or-none (values_refusal m n r.values) (rows_from m (n + 1) rows) e in
     let q = or-none (fault_unless (takes_times m r) (faults.Stamp n)) (stamps_from m (n + 1) rows) f in
-    and_from _ _ (and_from _ _ (values_all m n 1 r.values p.0) (unless_none (takes_times m r) (faults.Stamp n) q.0)) (none_taken m (n + 1) rows p.1 q.1)
+    and_from _ _ (and_from _ _ (values_all m n 1 r.values p.0) (unless-none (takes_times m r) (faults.Stamp n) q.0)) (none_taken m (n + 1) rows p.1 q.1)
 
 pub refusal_none : (m : Bounds) (rows : List RowParts) → list_all (takes_row m) rows ≡ true → rows_refusal m rows ≡ None
 refusal_none m rows e = let t = taken_none m 1 rows e in rw (t.0) (t.1)

@@ -10,7 +10,7 @@ use Rattle.comtrade_format.specs.declared.fault.WriteFault.TheVariants as faults
 use Rattle.comtrade_values.specs.Faults.{◌or◌, fault_unless}
 use Rattle.comtrade_format.specs.Shape.{channels_fit, rates_counted, rates_end, is_some_of, is_writable, has_bounds, head_shaped, row_shaped, rows_shaped, is_shaped}
 use Rattle.comtrade_format.specs.Refusals.{value_refusal, stamp_refusal, data_refusal, cfg_refusal, text_refusal}
-use Rattle.comtrade_format.proofs.Numbered.{or-none, unless_none}
+use Rattle.dfr_channels.proofs.Lawful.{or-none, unless-none}
 
 -- the parts of a head's shape
 pub record Head (h : HeadParts) : Type 0 where
@@ -53,11 +53,11 @@ unfolding data_refusal
 passes m f e =
     let first = or-none _ _ e in
     let second = or-none _ _ first.1 in
-    record { shaped = unless_none _ _ first.0; values = second.0; stamps = second.1 }
+    record { shaped = unless-none _ _ first.0; values = second.0; stamps = second.1 }
 
 pub cfg_shaped : (f : FileParts) → cfg_refusal f ≡ None → is_shaped f ≡ true
 unfolding cfg_refusal
-cfg_shaped f e = unless_none _ _ (or-none _ _ e).0
+cfg_shaped f e = unless-none _ _ (or-none _ _ e).0
 
 pub row_parts : (k n : ℕ) (r : RowParts) → row_shaped k n r ≡ true → (length r.values ≡ k) × (length r.bits ≡ n)
 row_parts k n r e = (grind (arith, nat_tests), grind (arith, nat_tests))

@@ -43,9 +43,10 @@ fn five_digits(n: u32) -> u64
 }
 
 /// How many leading zeros the number has when it is written with five digits.
-fn zeros_before(n: u32) -> usize
+pub(crate) fn zeros_before(n: u32) -> usize
     requires { n < 100000 }
-    ensures { result + length (decimal n) ≡ 5 }
+    ensures five { result + length (decimal n) ≡ 5 }
+    ensures some { n < 10000 → 0 < result }
 {
     if n < 10 {
         4

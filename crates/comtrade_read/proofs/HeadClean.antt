@@ -19,7 +19,7 @@ use Rattle.comtrade_read.proofs.AllOf.{All-append}
 use Rattle.comtrade_read.proofs.WrittenFields.{IsClean, clean_printed, clean_plain, printed_decimal, printed_signed, printed_number, printed_count, printed_side, printed_bit, printed_kind, printed_revision}
 use Rattle.comtrade_read.proofs.WrittenLines.{IsCleanLine}
 use Rattle.comtrade_read.proofs.WrittenDates.{Instant, date_printed, time_printed}
-use Rattle.comtrade_read.proofs.WrittenRows.{int_le-is}
+use Rattle.comtrade_values.proofs.Comparing.{int_le-so}
 use Rattle.comtrade_format.specs.Cfg.{names_fields, counts_fields, analog_fields, status_fields, rate_fields}
 use Rattle.comtrade_values.specs.Dates.{instant_fields}
 use Rattle.comtrade_read.proofs.HeadLines.{ends, tail, all_lines}
@@ -34,7 +34,7 @@ decimal_clean d h = clean_printed (decimal_text d) (printed_number d h)
 small_clean : (z : ℤ) → shape.in_bounds z ≡ true → IsClean (signed_decimal z)
 small_clean z e =
     let p = and_parts (int_le (neg_ℤ (pos 99_999)) z) (int_le z (pos 99_999)) e in
-    clean_printed (signed_decimal z) (printed_signed z (few z (int_le-is (neg_ℤ (pos 99_999)) z p.0) (int_le-is z (pos 99_999) p.1)))
+    clean_printed (signed_decimal z) (printed_signed z (few z (int_le-so (neg_ℤ (pos 99_999)) z p.0) (int_le-so z (pos 99_999) p.1)))
   where
     few : (z : ℤ) → neg_ℤ (pos 99_999) ≤ℤ z → z ≤ℤ pos 99_999 → unsigned_abs z < 10 ^ 64
     few (pos n) a b = omega (arith, ints)

@@ -14,7 +14,7 @@ use Rattle.comtrade_format.specs.Refusals.{text_fault, names_refusal, analog_ref
 use Rattle.dfr_channels.specs.Decimals.{HasDecimals}
 use Rattle.comtrade_read.specs.ReadBack.{HasNumbers}
 use Rattle.comtrade_read.proofs.WrittenDates.{Instant, instant_written}
-use Rattle.comtrade_read.proofs.WrittenRows.{int_le-is}
+use Rattle.comtrade_values.proofs.Comparing.{int_le-so}
 use Rattle.dfr_channels.proofs.Lawful.{or-none, unless-none}
 
 -- a channel that the writer takes
@@ -100,7 +100,7 @@ pub record HeadTaken (h : HeadParts) (rows : ℕ) : Type 0 where
 writable : (t : ℤ) → shape.is_writable t ≡ true → Instant t
 writable t e =
     let p = and_parts (int_le (neg_ℤ (pos 62_135_596_800_000_000)) t) (int_le t (pos 253_402_300_799_999_999)) e in
-    instant_written t (int_le-is (neg_ℤ (pos 62_135_596_800_000_000)) t p.0) (int_le-is t (pos 253_402_300_799_999_999) p.1)
+    instant_written t (int_le-so (neg_ℤ (pos 62_135_596_800_000_000)) t p.0) (int_le-so t (pos 253_402_300_799_999_999) p.1)
 
 pub head_taken : (h : HeadParts) (rows : ℕ) → HasNumbers h → shape.head_shaped h ≡ true → shape.is_some_of (shape.rates_end 0 h.rates) rows ≡ true → text_refusal h ≡ None → HeadTaken h rows
 unfolding shape.head_shaped

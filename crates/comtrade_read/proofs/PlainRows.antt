@@ -7,11 +7,13 @@ use Rattle.std.proofs.lemmas.Bool.Decides.{nat_tests}
 use Rattle.comtrade_values.specs.Spelling.{whole_number}
 use Rattle.comtrade_values.specs.Lines.{fields}
 use Rattle.comtrade_values.specs.PlainNumbers.{Begins, fields_behind}
+use Rattle.comtrade_values.specs.PlainBits.{AreBits}
+use Rattle.comtrade_values.proofs.PlainBits.{bit_digit, bits_from, next_bit}
 use Rattle.dfr_channels.specs.declared.scan.Reading.{Reading}
 use Rattle.comtrade_values.specs.Fields.{within, up_to, bit}
 use Rattle.comtrade_read.specs.Fields.{natural, small}
 use Rattle.comtrade_read.specs.Ascii.{stamp, value, reading, row_line}
-use Rattle.comtrade_read.specs.Inner.PlainRows.{IsNext, AreNext, AreBits}
+use Rattle.comtrade_read.specs.Inner.PlainRows.{IsNext, AreNext}
 use Rattle.comtrade_read.proofs.RowLine.{row_made}
 
 pub none_yet : {A : Type 0} (read : List ℕ → Option A) (fs : List (List ℕ)) → AreNext read fs 0 [] fs
@@ -50,42 +52,7 @@ value_read text z x behind b e = record { first = b.field; cut = b.cut; says = s
     says [] h = absurd cc
     says (c ∷ cs) h = rw (some (length cs), h) e
 
-bit_digit : (d : ℕ) → (d ≡ 48) ⊎ (d ≡ 49) → bit (d ∷ []) ≡ Some (d == 49)
-unfolding bit
-bit_digit d is = ⊎_elim (λ e. rw e refl) (λ e. rw e refl) is
-
-digit_first : (d : ℕ) (rest : List ℕ) → (d ≡ 48) ⊎ (d ≡ 49) → fields (d ∷ 44 ∷ rest) ≡ (d ∷ []) ∷ fields rest
-digit_first d rest is = ⊎_elim (λ e. rw e refl) (λ e. rw e refl) is
-
-digit_last : (d : ℕ) → (d ≡ 48) ⊎ (d ≡ 49) → fields (d ∷ []) ≡ (d ∷ []) ∷ []
-digit_last d is = ⊎_elim (λ e. rw e refl) (λ e. rw e refl) is
-
--- the fields from bit i of n on
-abbrev pub bits_from : List ℕ → ℕ → ℕ → List (List ℕ)
-bits_from text n i = cond (ltb i n) (fields (drop (2 * i) text)) []
-
 module _ (text : List ℕ) (n : ℕ) (are : AreBits text n) (exact : length text + 1 ≡ 2 * n) where
-  inner : (i : ℕ) → i + 1 < n → fields (drop (2 * i) text) ≡ (slice_index text (2 * i) ∷ []) ∷ fields (drop (2 * (i + 1)) text)
-  inner i less =
-      let here = drop_more text (2 * i) 0 (omega arith) in
-      let next = drop_more text (2 * i + 1) 0 (omega arith) in
-      let places : 2 * i + 1 + 1 ≡ 2 * (i + 1) = omega arith in
-      let cut : drop (2 * i) text ≡ slice_index text (2 * i) ∷ 44 ∷ drop (2 * (i + 1)) text = here ∙ ap (λ l. slice_index text (2 * i) ∷ l) (next ∙ rw (are.commas i less, places) refl) in
-      ap fields cut ∙ digit_first (slice_index text (2 * i)) (drop (2 * (i + 1)) text) (are.digits i (omega arith))
-
-  final : (i : ℕ) → i + 1 ≡ n → fields (drop (2 * i) text) ≡ (slice_index text (2 * i) ∷ []) ∷ []
-  final i is =
-      let here = drop_more text (2 * i) 0 (omega arith) in
-      let cut : drop (2 * i) text ≡ slice_index text (2 * i) ∷ [] = here ∙ ap (λ l. slice_index text (2 * i) ∷ l) (drop_all (2 * i + 1) text (omega arith)) in
-      ap fields cut ∙ digit_last (slice_index text (2 * i)) (are.digits i (omega arith))
-
-  next_bit : (i : ℕ) → i < n → bits_from text n i ≡ (slice_index text (2 * i) ∷ []) ∷ bits_from text n (i + 1)
-  next_bit i less = with_test (ltb (i + 1) n) refl
-    where
-      with_test : (b : Bool) → ltb (i + 1) n ≡ b → bits_from text n i ≡ (slice_index text (2 * i) ∷ []) ∷ bits_from text n (i + 1)
-      with_test true t = rw (lt-ltb i n less, t) (inner i (ltb-true (i + 1) n t))
-      with_test false t = let is : i + 1 ≡ n = omega (arith, ltb-false (i + 1) n t) in rw (lt-ltb i n less, t) (final i is)
-
   pub first_bit : (slot : List Bool) → AreNext bit (fields text) 0 (take 0 slot) (bits_from text n 0)
   first_bit slot = rw (lt-ltb 0 n (omega arith)) (none_yet bit (fields text))
 
@@ -94,7 +61,7 @@ module _ (text : List ℕ) (n : ℕ) (are : AreBits text n) (exact : length text
       → AreNext bit (fields text) (i + 1) (take (i + 1) (set slot i (slice_index text (2 * i) == 49))) (bits_from text n (i + 1))
   written slot i room less before =
       let b : Bool = slice_index text (2 * i) == 49 in
-      let next : IsNext bit (bits_from text n i) b (bits_from text n (i + 1)) = record { first = slice_index text (2 * i) ∷ []; cut = next_bit i less; says = bit_digit (slice_index text (2 * i)) (are.digits i less) } in
+      let next : IsNext bit (bits_from text n i) b (bits_from text n (i + 1)) = record { first = slice_index text (2 * i) ∷ []; cut = next_bit text n are exact i less; says = bit_digit (slice_index text (2 * i)) (are.digits i less) } in
       rw (take_more_set slot i b room) (one_more bit (fields text) i (take i slot) (bits_from text n i) b (bits_from text n (i + 1)) before next)
 
   pub last_bit : (slot : List Bool) → length slot ≡ n → AreNext bit (fields text) n (take n slot) (bits_from text n n) → AreNext bit (fields text) n slot []

@@ -25,6 +25,7 @@ use Rattle.comtrade_format.specs.Lines.{bit_text}
 use Rattle.comtrade_format.specs.Cfg.{side_text, kind_text}
 use Rattle.comtrade_format.specs.Ascii.{reading_text, stamp_text}
 use Rattle.comtrade_values.specs.Fields.{free_scale, bit, free_bit}
+use Rattle.comtrade_values.proofs.Comparing.{int_le-true}
 use Rattle.dfr_channels.specs.LineFields.{side}
 use Rattle.comtrade_read.specs.Fields.{whole, natural, small, scale, count}
 use Rattle.comtrade_read.specs.Head.{kind}
@@ -43,9 +44,6 @@ whole_written n lt = whole_again (pos n) lt
 pub natural_written : (high n : ℕ) → n ≤ high → n < 10 ^ 36 → natural high (decimal n) ≡ Some n
 unfolding natural
 natural_written high n le lt = rw (whole_again (pos n) lt, le-leb n high le) refl
-
-int_le-true : (a b : ℤ) → a ≤ℤ b → int_le a b ≡ true
-int_le-true a b h = grind (arith, ints)
 
 pub small_written : (z : ℤ) → negsuc 99998 ≤ℤ z → z ≤ℤ pos 99999 → small (signed_decimal z) ≡ Some z
 unfolding small

@@ -26,7 +26,7 @@ use Rattle.comtrade_read.specs.Reads.{ReadsHead}
 use Rattle.comtrade_read.proofs.WrittenFields.{whole_written, natural_written, small_written, count_written, scale_written, free_scale_written, side_written, free_bit_written, kind_written, revision_written}
 use Rattle.comtrade_read.proofs.WrittenLines.{written_joined}
 use Rattle.comtrade_read.proofs.WrittenDates.{Instant, date_written, time_written}
-use Rattle.comtrade_read.proofs.WrittenRows.{int_le-is}
+use Rattle.comtrade_values.proofs.Comparing.{int_le-so}
 use Rattle.comtrade_read.proofs.HeadLines.{ends, tail, all_lines, cfg_lines}
 use Rattle.comtrade_read.proofs.LineByLine.{last_added}
 use Rattle.comtrade_read.proofs.HeadTaken.{AnalogTaken, StatusTaken, rate_taken, HeadTaken}
@@ -49,7 +49,7 @@ counts_written k m some few =
 small_taken : (z : ℤ) → shape.in_bounds z ≡ true → small (signed_decimal z) ≡ Some z
 small_taken z e =
     let p = and_parts (int_le (neg_ℤ (pos 99_999)) z) (int_le z (pos 99_999)) e in
-    small_written z (int_le-is (neg_ℤ (pos 99_999)) z p.0) (int_le-is z (pos 99_999) p.1)
+    small_written z (int_le-so (neg_ℤ (pos 99_999)) z p.0) (int_le-so z (pos 99_999) p.1)
 
 analog_written : (n : ℕ) (c : AnalogParts) → n < 10 ^ 36 → AnalogTaken c → analog_line n (analog_fields n c) ≡ Ok c
 unfolding analog_fields analog_line analog_from scale

@@ -18,6 +18,7 @@ use Rattle.comtrade_format.specs.Binary.{reading_number, stamp_number, bits_numb
 use Rattle.comtrade_format.specs.Shape.{row_shaped}
 use Rattle.comtrade_format.specs.Refusals.{ascii_bounds, binary_bounds, takes_reading, takes_stamp, takes_times, values_from, rows_from, stamps_from}
 use Rattle.comtrade_values.specs.Fields.{bit}
+use Rattle.comtrade_values.proofs.Comparing.{int_le-so}
 use Rattle.comtrade_read.specs.declared.fault.ReadFault.{ReadFault}
 use Rattle.comtrade_read.specs.Line.{Left, taken, next, each, end}
 use Rattle.comtrade_read.specs.Ascii.{stamp, value, is_end_mark, row_line as read_line, rows}
@@ -64,9 +65,6 @@ rows_taken b k m n (r ∷ rs) s v t =
       },
       rows_taken b k m (n + 1) rs shaped.1 p.1 q.1,
     )
-
-pub int_le-is : (a b : ℤ) → int_le a b ≡ true → a ≤ℤ b
-int_le-is a b h = grind (arith, ints)
 
 -- ---- BINARY rows
 
@@ -124,7 +122,7 @@ status_same m bits e =
 
 present : (v : Reading) → takes_reading binary_bounds v ≡ true → IsPresent v
 present Missing h = tt
-present (Value x) h = let p = and_parts (int_le (neg_ℤ (pos 32767)) x) (int_le x (pos 32767)) h in (int_le-is (neg_ℤ (pos 32767)) x p.0, int_le-is x (pos 32767) p.1)
+present (Value x) h = let p = and_parts (int_le (neg_ℤ (pos 32767)) x) (int_le x (pos 32767)) h in (int_le-so (neg_ℤ (pos 32767)) x p.0, int_le-so x (pos 32767) p.1)
 
 all_present : (vs : List Reading) → AllByRecursion (λ v. takes_reading binary_bounds v ≡ true) vs → AllByRecursion IsPresent vs
 all_present [] h = tt
@@ -169,7 +167,7 @@ row_fields r = decimal r.number ∷ stamp_text r.stamp ∷ (map reading_text r.v
 
 value_again : (v : Reading) → takes_reading ascii_bounds v ≡ true → value (reading_text v) ≡ Some v
 value_again Missing h = missing_written
-value_again (Value x) h = let p = and_parts (int_le (neg_ℤ (pos 99999)) x) (int_le x (pos 99998)) h in value_written x (int_le-is (neg_ℤ (pos 99999)) x p.0) (int_le-is x (pos 99998) p.1)
+value_again (Value x) h = let p = and_parts (int_le (neg_ℤ (pos 99999)) x) (int_le x (pos 99998)) h in value_written x (int_le-so (neg_ℤ (pos 99999)) x p.0) (int_le-so x (pos 99998) p.1)
 
 stamp_again : (s : Option ℕ) → takes_stamp ascii_bounds s ≡ true → stamp (stamp_text s) ≡ Some s
 stamp_again None h = no_stamp_written
@@ -206,7 +204,7 @@ printed_values [] h = tt
 printed_values (Missing ∷ vs) h = (printed_missing, printed_values vs h.1)
 printed_values (Value x ∷ vs) h =
     let p = and_parts (int_le (neg_ℤ (pos 99999)) x) (int_le x (pos 99998)) h.0 in
-    (printed_signed x (few x (int_le-is (neg_ℤ (pos 99999)) x p.0) (int_le-is x (pos 99998) p.1)), printed_values vs h.1)
+    (printed_signed x (few x (int_le-so (neg_ℤ (pos 99999)) x p.0) (int_le-so x (pos 99998) p.1)), printed_values vs h.1)
   where
     few : (z : ℤ) → neg_ℤ (pos 99999) ≤ℤ z → z ≤ℤ pos 99998 → unsigned_abs z < 10 ^ 64
     few (pos n) a b = omega (arith, ints)

@@ -47,8 +47,8 @@ fn row_of<A: Allocator + Copy>(
     })
 }
 
-/// The number of bytes of a row of k values and m bits.
-fn row_size(k: usize, m: usize) -> usize
+/// The number of bytes of a row of a binary data file, of k values and m bits.
+pub fn row_size(k: usize, m: usize) -> usize
     requires k { k < 1000000 }
     requires m { m < 1000000 }
     ensures { result ≡ row_size k m }

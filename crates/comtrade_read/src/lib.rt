@@ -22,6 +22,7 @@ mod plain_rows;
 mod settings;
 mod verdict;
 
+pub use binary::row_size;
 pub use convert::{ConvertFault, Written, converted, written_of};
 pub use data::read_dat;
 pub use fault::ReadFault;

@@ -6,10 +6,11 @@ ghost use Rattle.comtrade_values.specs.PlainNumbers.{Begins, fields_behind};
 ghost use Rattle.comtrade_values.specs.Fields.{within, up_to, bit as read_bit};
 ghost use Rattle.comtrade_read.specs.Fields.{natural, ten_digits};
 ghost use Rattle.comtrade_read.specs.Ascii as spec;
-ghost use Rattle.comtrade_read.specs.Inner.PlainRows.{IsNext, AreNext, AreBits};
+ghost use Rattle.comtrade_values.specs.PlainBits.{AreBits};
+ghost use Rattle.comtrade_read.specs.Inner.PlainRows.{IsNext, AreNext};
 
 use comtrade_format::Row;
-use comtrade_values::{Items, plain_number, sample_number};
+use comtrade_values::{Items, are_bits, plain_number, sample_number};
 use dfr_channels::Reading;
 use std::alloc::{AllocError, Allocator};
 
@@ -99,20 +100,6 @@ fn next_values<A: Allocator>(
         left = behind;
     }
     Ok(Some((list, left)))
-}
-
-/// Whether a text of this length is `count` digits 0 and 1, separated by commas. It has no branch.
-fn are_bits(text: &[u8], count: usize) -> bool
-    requires { length text.now + 1 ≡ 2 * count }
-    ensures { result ≡ true → AreBits text.now count }
-{
-    let mut all = true;
-    for i in 0..count - 1 {
-        let digit = text[2 * i];
-        all = all & (digit == b'0' || digit == b'1') & (text[2 * i + 1] == b',');
-    }
-    let last = text[2 * (count - 1)];
-    all & (last == b'0' || last == b'1')
 }
 
 /// Fills the buffer with the `count` bits of a text.

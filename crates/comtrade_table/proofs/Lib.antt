@@ -1,1 +1,2 @@
+pub mod InPieces
 pub mod InPlace

@@ -15,7 +15,7 @@ use std::marker::Model;
 use thiserror::Error;
 
 /// The most channels of a head.
-const MOST: usize = 999_999;
+pub(crate) const MOST: usize = 999_999;
 
 /// Why bytes are not read in place.
 #[derive(Clone, Copy, Debug, PartialEq, Eq, Error)]
@@ -59,7 +59,7 @@ impl<'a> Model for BinaryTable<'a> {
 }
 
 /// The `endsamp` of the last rate, or 0 if there is none.
-fn last_sample(rates: &[Rate]) -> u64
+pub(crate) fn last_sample(rates: &[Rate]) -> u64
     ensures { result ≡ last_sample rates.now }
 {
     match rates {
@@ -69,7 +69,7 @@ fn last_sample(rates: &[Rate]) -> u64
 }
 
 /// The number of bytes of a row.
-fn row_size(analog: usize, status: usize) -> usize
+pub(crate) fn row_size(analog: usize, status: usize) -> usize
     requires analog { analog < 1000000 }
     requires status { status < 1000000 }
     ensures { result ≡ row_size analog status }

@@ -4,5 +4,9 @@
 
 mod binary;
 mod bytes;
+mod laws;
+mod layout;
 
 pub use binary::{BinaryTable, TableFault};
+pub use laws::read_in_pieces;
+pub use layout::{Layout, layout_of};

@@ -8,6 +8,7 @@ use Rattle.jiff_core.proofs.CalendarLemmas.{days_from_civil-day_count, day_count
 use Rattle.jiff_core.proofs.SignedLemmas.{signed_arith}
 use Rattle.jiff_core.proofs.MarchLemmas.{day_count-early}
 use Rattle.comtrade_values.specs.Dates.{last_that, year_of, month_of, civil_of}
+use Rattle.comtrade_values.proofs.Comparing.{int_le-true}
 
 last_that-is : (test : ℕ → Bool) (top n : ℕ) → n ≤ top → test n ≡ true → ((k : ℕ) → n < k → k ≤ top → test k ≡ false) → last_that test top ≡ n
 unfolding last_that
@@ -21,9 +22,6 @@ last_that-is test (suc top) n h holds fails =
           let at_top : test (suc top) ≡ true = rw e holds in
           rw at_top e)
     ]
-
-int_le-true : (a b : ℤ) → a ≤ℤ b → int_le a b ≡ true
-int_le-true a b h = grind (arith, ints)
 
 int_le-false : (a b : ℤ) → b <ℤ a → int_le a b ≡ false
 int_le-false a b h = grind (arith, ints)

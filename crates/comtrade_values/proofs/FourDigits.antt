@@ -1,5 +1,6 @@
 -- Four digits that are looked at together.
 use Rattle.std.proofs.Common.{◌≡◌, ℕ, ◌+◌, ◌-◌, ◌*◌, ◌%◌, ◌^◌, ◌<◌, ◌≤◌, Bool, true, false, cond, eqb, ltb, List, [], ◌∷◌, map, length, take, get_or, refl, arith}
+use Rattle.std.proofs.lemmas.Bool.{and_parts}
 use Rattle.std.specs.Prelude.{not, ◌&&◌}
 use Rattle.std.specs.Char.{is_ascii_digit}
 use Rattle.std.specs.Str.{all_ascii_digits}
@@ -9,7 +10,6 @@ use lib.Lanes.{zip2, mask_l, top, dots}
 use mir.Syntax.{w8}
 use mir.Val.{Fits}
 use Rattle.comtrade_values.proofs.Capped.{digit_is}
-use Rattle.comtrade_values.proofs.PlainNumbers.{both}
 
 -- a byte less another, which wraps around
 abbrev less : ℕ → ℕ → ℕ
@@ -68,8 +68,8 @@ value_is (a ∷ []) long h = absurd (omega arith)
 value_is (a ∷ b ∷ []) long h = absurd (omega arith)
 value_is (a ∷ b ∷ c ∷ []) long h = absurd (omega arith)
 value_is (a ∷ b ∷ c ∷ d ∷ rest) long h =
-    let p = both (is_ascii_digit a) (all_ascii_digits (b ∷ c ∷ d ∷ [])) h in
-    let q = both (is_ascii_digit b) (all_ascii_digits (c ∷ d ∷ [])) p.1 in
-    let r = both (is_ascii_digit c) (all_ascii_digits (d ∷ [])) q.1 in
-    let s = both (is_ascii_digit d) (all_ascii_digits []) r.1 in
+    let p = and_parts (is_ascii_digit a) (all_ascii_digits (b ∷ c ∷ d ∷ [])) h in
+    let q = and_parts (is_ascii_digit b) (all_ascii_digits (c ∷ d ∷ [])) p.1 in
+    let r = and_parts (is_ascii_digit c) (all_ascii_digits (d ∷ [])) q.1 in
+    let s = and_parts (is_ascii_digit d) (all_ascii_digits []) r.1 in
     rw (less_is a p.0, less_is b q.0, less_is c r.0, digit_is a p.0, digit_is b q.0, digit_is c r.0, digit_is d s.0) (omega arith)

@@ -5,7 +5,7 @@ use Rattle.std.specs.List.{list_all, slice_split, position_or_len}
 use Rattle.std.specs.Char.{digit_value, is_ascii_digit}
 use Rattle.std.specs.Str.{all_ascii_digits}
 use Rattle.std.specs.Str.Parse.{digits_value, digits_value_after}
-use Rattle.std.proofs.lemmas.Bool.{lt-ltb, le-leb, lt-leb, ltb-false, ne_eqb}
+use Rattle.std.proofs.lemmas.Bool.{and_parts, lt-ltb, le-leb, lt-leb, ltb-false, ne_eqb}
 use Rattle.std.proofs.lemmas.Bool.Decides.{nat_tests}
 use Rattle.std.proofs.lemmas.List.{reverse-reverse, take-append-drop, length-take-le, length-append, drop_all, drop_more}
 use Rattle.std.proofs.Math.Bool.{and-false}
@@ -23,10 +23,6 @@ is_comma b = eqb b 44
 abbrev is_solid : ℕ → Bool
 is_solid b = not (is_comma b) && not (is_blank b)
 
-pub both : (a b : Bool) → (a && b) ≡ true → (a ≡ true) × (b ≡ true)
-both true b h = (refl, h)
-both false b h = absurd cc
-
 no : (a : Bool) → not a ≡ true → a ≡ false
 no true h = absurd cc
 no false h = refl
@@ -37,7 +33,7 @@ digit_solid d h = grind (arith, nat_tests)
 digits_solid : (ds : List ℕ) → all_ascii_digits ds ≡ true → list_all is_solid ds ≡ true
 digits_solid [] h = refl
 digits_solid (d ∷ ds) h =
-    let p = both (is_ascii_digit d) (all_ascii_digits ds) h in
+    let p = and_parts (is_ascii_digit d) (all_ascii_digits ds) h in
     rw (digit_solid d p.0, digits_solid ds p.1) refl
 
 -- ---- cutting
@@ -45,28 +41,28 @@ digits_solid (d ∷ ds) h =
 split_end : (f : List ℕ) → list_all is_solid f ≡ true → slice_split is_comma f ≡ f ∷ []
 split_end [] h = refl
 split_end (x ∷ xs) h =
-    let p = both (is_solid x) (list_all is_solid xs) h in
-    let q = both (not (is_comma x)) (not (is_blank x)) p.0 in
+    let p = and_parts (is_solid x) (list_all is_solid xs) h in
+    let q = and_parts (not (is_comma x)) (not (is_blank x)) p.0 in
     rw (no (is_comma x) q.0, split_end xs p.1) refl
 
 split_comma : (f rest : List ℕ) → list_all is_solid f ≡ true → slice_split is_comma (f ++ 44 ∷ rest) ≡ f ∷ slice_split is_comma rest
 split_comma [] rest h = refl
 split_comma (x ∷ xs) rest h =
-    let p = both (is_solid x) (list_all is_solid xs) h in
-    let q = both (not (is_comma x)) (not (is_blank x)) p.0 in
+    let p = and_parts (is_solid x) (list_all is_solid xs) h in
+    let q = and_parts (not (is_comma x)) (not (is_blank x)) p.0 in
     rw (no (is_comma x) q.0, split_comma xs rest p.1) refl
 
 start_solid : (f : List ℕ) → list_all is_solid f ≡ true → trim_start f ≡ f
 start_solid [] h = refl
 start_solid (x ∷ xs) h =
-    let p = both (is_solid x) (list_all is_solid xs) h in
-    let q = both (not (is_comma x)) (not (is_blank x)) p.0 in
+    let p = and_parts (is_solid x) (list_all is_solid xs) h in
+    let q = and_parts (not (is_comma x)) (not (is_blank x)) p.0 in
     rw (no (is_blank x) q.1) refl
 
 onto_solid : (f acc : List ℕ) → list_all is_solid f ≡ true → list_all is_solid acc ≡ true → list_all is_solid (reverse_aux f acc) ≡ true
 onto_solid [] acc h k = k
 onto_solid (x ∷ xs) acc h k =
-    let p = both (is_solid x) (list_all is_solid xs) h in
+    let p = and_parts (is_solid x) (list_all is_solid xs) h in
     onto_solid xs (x ∷ acc) p.1 (rw (p.0, k) refl)
 
 reverse_solid : (f : List ℕ) → list_all is_solid f ≡ true → list_all is_solid (reverse f) ≡ true
@@ -92,7 +88,7 @@ numeral ds some all few =
 whole_digits : (ds : List ℕ) → 0 < length ds → all_ascii_digits ds ≡ true → digits_value 10 ds < 10 ^ 10 → whole_number ds ≡ Some (pos (digits_value 10 ds))
 whole_digits [] some all few = absurd (omega arith)
 whole_digits (d ∷ ds) some all few =
-    let s = not_sign d (both (is_ascii_digit d) (all_ascii_digits ds) all).0 in
+    let s = not_sign d (and_parts (is_ascii_digit d) (all_ascii_digits ds) all).0 in
     rw (s.0, s.1, numeral (d ∷ ds) some all few) refl
 
 whole_minus : (ds : List ℕ) → 0 < length ds → all_ascii_digits ds ≡ true → digits_value 10 ds < 10 ^ 10 → whole_number (45 ∷ ds) ≡ Some (neg_ℤ (pos (digits_value 10 ds)))
@@ -122,7 +118,7 @@ begins false text rest n behind is d few =
 pub digits_more : (ds : List ℕ) (d : ℕ) → all_ascii_digits ds ≡ true → is_ascii_digit d ≡ true → all_ascii_digits (ds ++ d ∷ []) ≡ true
 digits_more [] d h k = rw k refl
 digits_more (x ∷ xs) d h k =
-    let p = both (is_ascii_digit x) (all_ascii_digits xs) h in
+    let p = and_parts (is_ascii_digit x) (all_ascii_digits xs) h in
     rw (p.0, digits_more xs d p.1 k) refl
 
 pub value_more : (ds : List ℕ) (d n : ℕ) → digits_value_after 10 n (ds ++ d ∷ []) ≡ digits_value_after 10 n ds * 10 + digit_value d
@@ -153,8 +149,8 @@ at_front false b bs h = goes_on b bs h
 before_digits : (ds rest : List ℕ) → all_ascii_digits ds ≡ true → before_comma (ds ++ rest) ≡ ds ++ before_comma rest
 before_digits [] rest h = refl
 before_digits (d ∷ ds) rest h =
-    let p = both (is_ascii_digit d) (all_ascii_digits ds) h in
-    let s = both (not (is_comma d)) (not (is_blank d)) (digit_solid d p.0) in
+    let p = and_parts (is_ascii_digit d) (all_ascii_digits ds) h in
+    let s = and_parts (not (is_comma d)) (not (is_blank d)) (digit_solid d p.0) in
     goes_on d (ds ++ rest) (no (is_comma d) s.0) ∙ ap (λ l. d ∷ l) (before_digits ds rest p.1)
 
 pub before : (text : List ℕ) (n : ℕ) → all_ascii_digits (take n text) ≡ true → before_comma text ≡ take n text ++ before_comma (drop n text)

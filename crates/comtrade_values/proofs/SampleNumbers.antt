@@ -3,10 +3,10 @@ use Rattle.std.proofs.Common.{append-nil, ◌≡◌, ℕ, ◌+◌, ◌<◌, ◌�
 use Rattle.std.specs.Prelude.{◌&&◌}
 use Rattle.std.specs.Char.{is_ascii_digit}
 use Rattle.std.specs.Str.{all_ascii_digits}
-use Rattle.std.proofs.lemmas.Bool.{lt-ltb, le-ltb, ltb-true, ltb-false, ne_eqb}
+use Rattle.std.proofs.lemmas.Bool.{and_parts, lt-ltb, le-ltb, ltb-true, ltb-false, ne_eqb}
 use Rattle.std.proofs.lemmas.List.{length-take-le, length-append, drop_all, drop_more}
 use Rattle.comtrade_values.specs.PlainNumbers.{before_comma, is_four_or_five, begins_four_or_five}
-use Rattle.comtrade_values.proofs.PlainNumbers.{both, is_comma, at_front, before, goes_on, not_digits, no_second, no_third}
+use Rattle.comtrade_values.proofs.PlainNumbers.{is_comma, at_front, before, goes_on, not_digits, no_second, no_third}
 
 digits_end : (text : List ℕ) (n : ℕ) → n ≤ length text → 3 < n → n < 6 → all_ascii_digits (take n text) ≡ true → before_comma (drop n text) ≡ [] → begins_four_or_five text ≡ true
 unfolding begins_four_or_five
@@ -50,7 +50,7 @@ front true n b bs e le all =
     absurd (omega (arith, rw at at le))
 front false n b bs e le all =
     let at : before_comma (b ∷ bs) ≡ b ∷ before_comma bs = at_front false b bs e in
-    let p = both (is_ascii_digit b) (all_ascii_digits (before_comma bs)) (rw at at all) in
+    let p = and_parts (is_ascii_digit b) (all_ascii_digits (before_comma bs)) (rw at at all) in
     let less : suc n ≤ suc (length (before_comma bs)) = rw at at le in
     (omega arith, p.0, p.1)
 

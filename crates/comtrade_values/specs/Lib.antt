@@ -2,6 +2,7 @@ pub mod Faults
 pub mod Spelling
 pub mod Written
 pub mod Lines
+pub mod PlainBits
 pub mod PlainNumbers
 pub mod Fields
 pub mod Texts

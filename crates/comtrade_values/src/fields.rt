@@ -2,6 +2,7 @@
 
 ghost use Rattle.std.specs.Prelude.{◌≡◌};
 ghost use Rattle.comtrade_values.specs.Fields as spec;
+ghost use Rattle.comtrade_values.specs.Spelling.{whole_number};
 
 use crate::decimal::Decimal;
 use crate::number::integer_of;
@@ -46,5 +47,15 @@ pub fn free_bit_of(text: &[u8]) -> Option<bool>
         Some(false)
     } else {
         bit_of(text)
+    }
+}
+
+/// Reads a whole number that fits a u32; None otherwise.
+pub fn natural_of(text: &[u8]) -> Option<u32>
+    ensures { result ≡ spec.up_to 4294967295 (whole_number text.now) }
+{
+    match integer_of(text) {
+        Some(n) if 0 <= n && n <= u32::MAX as i128 => Some(n as u32),
+        _ => None,
     }
 }

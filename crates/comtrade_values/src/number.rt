@@ -23,9 +23,10 @@ pub(crate) fn capped_number(start: u128, digits: &[u8]) -> Option<u128>
 }
 
 /// The number that at most 19 digits spell, which fits 64 bits. None if a byte is not a digit.
-fn short_number(digits: &[u8]) -> Option<u64>
+pub fn short_number(digits: &[u8]) -> Option<u64>
     requires { length digits.now ≤ 19 }
     ensures value { result ≡ (if all_ascii_digits digits.now then Some (digits_value 10 digits.now) else None) }
+    ensures less { IfSome result (λ n. n < 10 ^ length digits.now) }
     ensures short { IfSome result (λ n. n < 10 ^ 19) }
 {
     let mut number: u64 = 0;

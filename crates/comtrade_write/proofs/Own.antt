@@ -9,6 +9,7 @@ use Rattle.std.proofs.lemmas.Bool.Decides.{nat_tests}
 use Rattle.std.specs.List.{list_all}
 use Rattle.comtrade_values.specs.Spelling.{Number}
 use Rattle.comtrade_values.specs.Texts.{is_plain}
+use Rattle.comtrade_values.proofs.Comparing.{le-so, int_le-so, int_le-true}
 use Rattle.dfr_channels.specs.Parts.{AnalogParts, StatusParts, ScanParts, SetupParts}
 use Rattle.dfr_channels.specs.Setups.{has_span, has_analog_texts, has_status_texts, IsLawful}
 use Rattle.dfr_channels.specs.Scans.{micros, is_within, has_shape, lowest_out, scan_fault}
@@ -25,12 +26,6 @@ use Rattle.comtrade_format.specs.Shape.{channels_fit, rates_end, is_some_of, is_
 use Rattle.comtrade_format.specs.Refusals.{ascii_bounds, binary_bounds, takes_reading, values_from, rows_from, stamps_from, data_refusal, analog_refusal, status_refusal, text_refusal, cfg_refusal}
 use Rattle.comtrade_format.specs.Data.{IsWritable}
 use Rattle.comtrade_write.specs.OfRecord.{whole, instant_at, head_of, row_of, file}
-
-le-so : (a b : ℕ) → nat_le a b ≡ true → a ≤ b
-le-so a b e = grind (arith, nat_tests, e)
-
-int_le-so : (a b : ℤ) → int_le a b ≡ true → a ≤ℤ b
-int_le-so a b e = grind (arith, ints, e)
 
 pub record Own (l : SetupParts) (r : RecordParts) : Type 0 where
   pub scans : list_all (passes l) r.scans ≡ true
@@ -71,9 +66,6 @@ stamps_low l r o i h =
 nat_le-is : (a b : ℕ) → a ≤ b → nat_le a b ≡ true
 nat_le-is a b h = grind (arith, nat_tests)
 
-int_le-is : (a b : ℤ) → a ≤ℤ b → int_le a b ≡ true
-int_le-is a b h = grind (arith, ints)
-
 same : (n : ℕ) → (n == n) ≡ true
 same n = grind (arith, nat_tests)
 
@@ -99,12 +91,12 @@ earlier_in_time l i k h e = below l.start (micros l.rate i) (micros l.rate k) (m
 
 -- where a scan has an instant, an earlier one has
 pub earlier_instant : (l : SetupParts) (i k : ℕ) → i ≤ k → has_instant l k ≡ true → has_instant l i ≡ true
-earlier_instant l i k h e = if_some _ _ (int_le-is _ _ (earlier_in_time l i k h e))
+earlier_instant l i k h e = if_some _ _ (int_le-true _ _ (earlier_in_time l i k h e))
 
 -- an instant that is there lies from the start to the year 9999
 instant_fits : (l : SetupParts) (i k : ℕ) → pos 0 ≤ℤ l.start → i ≤ k → has_instant l k ≡ true → is_writable (instant_at l i) ≡ true
 instant_fits l i k low h e =
-    and_from _ _ (int_le-is _ _ (above l.start (micros l.rate i) low)) (int_le-is _ _ (earlier_in_time l i k h e))
+    and_from _ _ (int_le-true _ _ (above l.start (micros l.rate i) low)) (int_le-true _ _ (earlier_in_time l i k h e))
 
 length_numbered : {X Y : Type 0} (f : ℕ → X → Y) (n : ℕ) (xs : List X) → length (numbered f n xs) ≡ length xs
 length_numbered f n [] = refl
@@ -131,8 +123,8 @@ span_parts c e =
 span_bounds : (c : AnalogParts) → has_span c ≡ true → has_bounds c ≡ true
 span_bounds c e =
     let s = span_parts c e in
-    and_from _ _ (and_from _ _ (int_le-is (negsuc 99_998) c.min (omega (arith, ints, s.low))) (int_le-is c.min (pos 99_999) (omega (arith, ints, s.order, s.high))))
-    (and_from _ _ (int_le-is (negsuc 99_998) c.max (omega (arith, ints, s.low, s.order))) (int_le-is c.max (pos 99_999) (omega (arith, ints, s.high))))
+    and_from _ _ (and_from _ _ (int_le-true (negsuc 99_998) c.min (omega (arith, ints, s.low))) (int_le-true c.min (pos 99_999) (omega (arith, ints, s.order, s.high))))
+    (and_from _ _ (int_le-true (negsuc 99_998) c.max (omega (arith, ints, s.low, s.order))) (int_le-true c.max (pos 99_999) (omega (arith, ints, s.high))))
 
 -- a scan that passes has the layout's channels, and each value in its channel's range
 record Passed (l : SetupParts) (x : ScanParts) : Type 0 where
@@ -191,7 +183,7 @@ reading_fits m c (Value x) low high s e =
     let r = and_parts (int_le c.min x) (int_le x c.max) e in
     let d : c.min ≤ℤ x = int_le-so _ _ r.0 in
     let f : x ≤ℤ c.max = int_le-so _ _ r.1 in
-    and_from _ _ (int_le-is m.low x (omega (arith, ints, p.low, d, low))) (int_le-is x m.high (omega (arith, ints, p.high, f, high)))
+    and_from _ _ (int_le-true m.low x (omega (arith, ints, p.low, d, low))) (int_le-true x m.high (omega (arith, ints, p.high, f, high)))
 
 within_here : (b : Bool) (i : ℕ) (rest : Option ℕ) → (if b then rest else Some i) ≡ None → (b ≡ true) × (rest ≡ None)
 within_here true i rest e = (refl, e)

@@ -9,6 +9,8 @@ use Rattle.std.proofs.lemmas.Int.{ints}
 use Rattle.comtrade_values.specs.Faults.{◌or◌, fault_unless}
 use Rattle.dfr_channels.specs.Parts.{SetupParts}
 use Rattle.comtrade_values.specs.Texts.{is_name}
+use Rattle.comtrade_values.proofs.Comparing.{le-so, int_le-so}
+use Rattle.comtrade_values.proofs.Cuts.{place_none}
 use Rattle.dfr_channels.specs.Setups.{has_analog_texts, has_status_texts, place_fault, has_span, setup_fault, IsLawful}
 
 -- neither of two faults is there
@@ -24,10 +26,6 @@ pub map-none : {F G : Type 0} (f : F → G) (o : Option F) → option_map f o �
 map-none f None e = refl
 map-none f (Some x) e = absurd cc
 
-place_end : (i n : ℕ) (b : Bool) → ltb i n ≡ b → cond b (Some i) None ≡ None → n ≤ i
-place_end i n true t e = absurd cc
-place_end i n false t e = grind (arith, nat_tests)
-
 all_from_len : {X : Type 0} (p : X → Bool) (xs : List X) → length xs ≤ position_or_len (λ x. not (p x)) xs → list_all p xs ≡ true
 all_from_len p [] h = refl
 all_from_len p (x ∷ xs) h = at (all_from_len p xs) (p x) refl
@@ -38,13 +36,7 @@ all_from_len p (x ∷ xs) h = at (all_from_len p xs) (p x) refl
 
 -- no item fails
 pub none_fails : {X : Type 0} (p : X → Bool) (xs : List X) → position (λ x. not (p x)) xs ≡ None → list_all p xs ≡ true
-none_fails p xs e = all_from_len p xs (place_end (position_or_len (λ x. not (p x)) xs) (length xs) _ refl e)
-
-le-so : (a b : ℕ) → nat_le a b ≡ true → a ≤ b
-le-so a b e = grind (arith, nat_tests, e)
-
-int_le-so : (a b : ℤ) → int_le a b ≡ true → a ≤ℤ b
-int_le-so a b e = grind (arith, ints, e)
+none_fails p xs e = all_from_len p xs (place_none (position_or_len (λ x. not (p x)) xs) (length xs) _ refl e)
 
 pub record Texts (s : SetupParts) : Type 0 where
   pub station : is_name s.station ≡ true

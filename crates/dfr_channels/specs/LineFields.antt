@@ -26,6 +26,11 @@ abbrev pub need : {A B F : Type 0} → Option A → F → (A → Result B F) →
 need None fault more = Err fault
 need (Some x) fault more = more x
 
+-- what is said, and what follows from it
+abbrev pub and_then : {A B F : Type 0} → Result A F → (A → Result B F) → Result B F
+and_then (Err fault) more = Err fault
+and_then (Ok x) more = more x
+
 -- an analogue channel (C37.111-1999, 5.3.3), whose id is field i, from 0; bad n is the fault of field n, from 1, and bound reads min and max
 unfoldable pub analog_from : {F : Type 0} → ℕ → (ℕ → F) → (List ℕ → Option ℤ) → List (List ℕ) → Result AnalogParts F
 analog_from i bad bound fs =

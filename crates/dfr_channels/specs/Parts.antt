@@ -1,5 +1,5 @@
 -- What contracts see of channels, set-ups and scans, whatever their allocator is.
-use Rattle.std.specs.Prelude.{ℕ, ℤ, Bool, List}
+use Rattle.std.specs.Prelude.{ℕ, ℤ, Bool, List, [], Option, Some, None}
 use Rattle.comtrade_values.specs.Spelling.{Number}
 use Rattle.dfr_channels.specs.declared.channel.Side.{Side}
 use Rattle.dfr_channels.specs.declared.scan.Reading.{Reading}
@@ -23,6 +23,11 @@ pub record StatusParts : Type 0 where
   pub phase : List ℕ
   pub component : List ℕ
   pub normal : Bool
+
+-- the id of a contact; nothing where there is no such contact
+abbrev pub status_id : Option StatusParts → List ℕ
+status_id None = []
+status_id (Some c) = c.id
 
 pub record SetupParts : Type 0 where
   pub station : List ℕ

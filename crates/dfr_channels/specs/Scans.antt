@@ -8,6 +8,12 @@ use Rattle.dfr_channels.specs.declared.scan.Reading.TheVariants.{Value, Missing}
 use Rattle.dfr_channels.specs.declared.layout.ScanFault.{ScanFault}
 use Rattle.dfr_channels.specs.declared.layout.ScanFault.TheVariants.{Shape, Range}
 
+-- what a reading gives, if it is there
+abbrev pub sample_in : Option Reading → Option ℤ
+sample_in (Some (Value x)) = Some x
+sample_in (Some Missing) = None
+sample_in None = None
+
 -- the microseconds from scan 0 to scan k, at this rate
 abbrev pub micros : ℕ → ℕ → ℕ
 micros rate k = k * 1_000_000 / rate

@@ -3,7 +3,6 @@ pub mod Leaving
 pub mod Turning
 pub mod Times
 pub mod Fitted
-pub mod Lists
 pub mod Ages
 pub mod Paced
 pub mod Summed

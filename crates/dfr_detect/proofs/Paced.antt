@@ -11,7 +11,7 @@ use Rattle.dfr_detect.specs.Windows.{ago}
 use Rattle.dfr_detect.specs.Crossings.{dips, since_zero, crossings, scans_time, age, cycles_before, compares, has_frequency}
 use Rattle.dfr_detect.specs.Paces.{Pace, pace_by, spans, paced, pushed, pushed_from, pace_after, pace_meets, no_pace}
 use Rattle.dfr_detect.specs.declared.settings.FrequencyTest.{FrequencyTest}
-use Rattle.dfr_detect.proofs.Lists.{take_again, take_none, drop_none}
+use Rattle.comtrade_values.proofs.Lists.{take_again, take_none, drop_none}
 use Rattle.dfr_detect.proofs.Ages.{Ascends, Ascends-later, Ascends-more, later, spans-later, spans-more, age-later, age_from}
 
 -- a crossing is no more than a scan ago

@@ -10,7 +10,7 @@ use Rattle.dfr_detect.specs.Paces.{Pace, pace_gone}
 use Rattle.dfr_detect.specs.Phasors.{KeptWaves, waves_by, waves_gone, number, after}
 use Rattle.dfr_detect.specs.Shares.{first_shape, other_shape, has_waves}
 use Rattle.dfr_detect.specs.Watched.{Kept, kept, kept_by, pace_of, next_pace, waves_of, next_waves, met_by, in_row, bit, IsStep, after_sample, after_gap}
-use Rattle.dfr_detect.proofs.Lists.{take_again, take_none}
+use Rattle.comtrade_values.proofs.Lists.{take_again, take_none}
 use Rattle.dfr_detect.proofs.Ages.{age_past}
 use Rattle.dfr_detect.proofs.Paced.{paced_more, paced_none, pace_meets_is}
 use Rattle.dfr_detect.specs.declared.settings.Condition.{Condition}

@@ -1,18 +1,12 @@
 -- The signal of a detector: the sum of the samples of some channels, or the samples of three phases, scan after scan.
 use Rattle.std.specs.Prelude.{ℕ, ℤ, pos, ◌+ℤ◌, Bool, true, false, if◌then◌else◌, List, [], ◌∷◌, map, slice_get, Option, Some, None}
+use Rattle.dfr_channels.specs.Scans.{sample_in}
 use Rattle.dfr_channels.specs.declared.scan.Reading.{Reading}
 use Rattle.dfr_detect.specs.declared.sample.Sample.{Sample}
 use Rattle.dfr_detect.specs.declared.settings.WaveTest.{WaveTest}
 use Rattle.dfr_detect.specs.declared.settings.WaveTest.TheVariants.{Harmonic, SequenceOver, SequenceUnder, Unbalance}
 use Rattle.dfr_detect.specs.declared.settings.Condition.{Condition}
 use Rattle.dfr_detect.specs.declared.settings.Condition.TheVariants.{RmsOver, RmsUnder, Change, Jump, Frequency, Waves}
-use Rattle.dfr_channels.specs.declared.scan.Reading.TheVariants.{Value, Missing}
-
--- the sample of a channel, if there is one
-abbrev pub sample_in : Option Reading → Option ℤ
-sample_in (Some (Value x)) = Some x
-sample_in (Some Missing) = None
-sample_in None = None
 
 -- the sum of two samples, if both are there
 abbrev pub plus : Option ℤ → Option ℤ → Option ℤ

@@ -1,6 +1,7 @@
 //! What a scan gives a detector: the sum of the samples of some channels, or those of three phases.
 
 ghost use Rattle.std.specs.Prelude.{◌≡◌, ◌≤◌, ◌^◌, IfSome, length, slice_get, unsigned_abs};
+ghost use Rattle.dfr_channels.specs.Scans.{sample_in};
 ghost use Rattle.dfr_detect.specs.Signals as spec;
 ghost use Rattle.dfr_detect.specs.Sums.{AreSmall};
 
@@ -9,7 +10,7 @@ use dfr_channels::Reading;
 
 /// The sample of a channel, if there is one.
 fn sample_in(readings: &[Reading], channel: usize) -> Option<i64>
-    ensures value { result ≡ spec.sample_in (slice_get readings.now channel) }
+    ensures value { result ≡ sample_in (slice_get readings.now channel) }
     ensures bound { IfSome result (λ x. unsigned_abs x ≤ 2 ^ 31) }
 {
     match readings.get(channel) {

@@ -1,15 +1,13 @@
 //! The name of a file as text: what it was made from can be read back.
 
-ghost use Rattle.std.specs.Prelude.{◌≡◌, ◌⊎◌, ◌≤◌, ◌<◌, ◌^◌, ◌++◌, ◌∷◌, ℕ, List, Some, None, IfSome, MatchOption, OnOk, true, get_or, length, if◌then◌else◌, decimal};
-ghost use Rattle.std.specs.Str.{all_ascii_digits};
-ghost use Rattle.std.specs.Str.Parse.{digits_value};
+ghost use Rattle.std.specs.Prelude.{◌≡◌, ◌⊎◌, ◌≤◌, ◌<◌, ◌^◌, ◌++◌, ◌∷◌, ℕ, List, Some, None, IfSome, MatchOption, OnOk, true, get_or, length, decimal};
 ghost use Rattle.comtrade_values.specs.Written.{padded};
 ghost use Rattle.dfr_folder.specs.declared.name.Name.{Name};
 ghost use Rattle.dfr_folder.specs.declared.name.Ending.{Ending};
 ghost use Rattle.dfr_folder.specs.Texts.{CanBeNamed, Lacks, ending_text, key_text, name_text, numbers_text};
 
 use crate::name::{Ending, Key, Name};
-use comtrade_values::{put, put_number, put_padded};
+use comtrade_values::{put, put_number, put_padded, short_number};
 use std::alloc::{AllocError, Allocator};
 
 /// Appends the name that the files of a key begin with.
@@ -77,22 +75,6 @@ fn cut(text: &[u8], mark: u8) -> Option<(&[u8], &[u8])>
     None
 }
 
-/// The number that digits spell, at most 19.
-fn digits_in(digits: &[u8]) -> Option<u64>
-    requires { length digits.now ≤ 19 }
-    ensures value { result ≡ (if all_ascii_digits digits.now then Some (digits_value 10 digits.now) else None) }
-    ensures short { IfSome result (λ n. n < 10 ^ length digits.now) }
-{
-    let mut number: u64 = 0;
-    for digit in digits {
-        if !digit.is_ascii_digit() {
-            return None;
-        }
-        number = number * 10 + (*digit - b'0') as u64;
-    }
-    Some(number)
-}
-
 /// The number that so many digits spell.
 fn padded_in(text: &[u8], width: usize) -> Option<u64>
     requires some { 0 < width }
@@ -104,7 +86,7 @@ fn padded_in(text: &[u8], width: usize) -> Option<u64>
     if text.len() != width {
         return None;
     }
-    digits_in(text)
+    short_number(text)
 }
 
 /// Whether there are 1 to 19 bytes, and the first of more than one is no zero.
@@ -131,7 +113,7 @@ fn number_in(text: &[u8]) -> Option<u64>
     if !is_plain(text) {
         return None;
     }
-    digits_in(text)
+    short_number(text)
 }
 
 /// A record's number, and the number at the end of its name.

@@ -3,21 +3,17 @@ use Rattle.std.specs.Prelude.{ℕ, Bool, true, false, List, [], ◌++◌, codes,
 use Rattle.std.specs.List.{flat_map}
 use Rattle.std.specs.Fmt.{signed_decimal}
 use Rattle.comtrade_format.specs.Numbered.{numbered}
-use Rattle.dfr_channels.specs.Parts.{AnalogParts, StatusParts, SetupParts}
+use Rattle.dfr_channels.specs.Parts.{AnalogParts, SetupParts, status_id}
 use Rattle.dfr_channels.specs.declared.rule.Rule.{Rule}
 use Rattle.dfr_channels.specs.declared.rule.Rule.TheVariants.{Level, Edge}
 use Rattle.dfr_recorder.specs.declared.record.Cause.{Cause}
 use Rattle.dfr_recorder.specs.declared.record.Cause.TheVariants as cause
 use Rattle.dfr_header.specs.Lines.{line_end}
 
--- the id of a channel; nothing where there is no such channel
+-- the id of an analogue channel; nothing where there is no such channel
 abbrev pub analog_id : Option AnalogParts → List ℕ
 analog_id None = []
 analog_id (Some c) = c.id
-
-abbrev pub status_id : Option StatusParts → List ℕ
-status_id None = []
-status_id (Some c) = c.id
 
 abbrev pub side_text : Bool → List ℕ
 side_text true = codes ") at or over "

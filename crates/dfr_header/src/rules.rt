@@ -1,6 +1,7 @@
 //! Trigger rules in words.
 
 ghost use Rattle.std.specs.Prelude.{◌≡◌, ◌++◌, OnOk, option_copied, slice_get};
+ghost use Rattle.dfr_channels.specs.Parts.{status_id};
 ghost use Rattle.dfr_header.specs.Rules as spec;
 
 use crate::lines::end_line;
@@ -29,7 +30,7 @@ fn put_status_id<A: Allocator>(
     channels: &[StatusChannel<A>],
     channel: u32,
 ) -> Result<(), AllocError>
-    ensures { OnOk result (out.new.items ≡ out.old.items ++ spec.status_id (slice_get channels.now channel)) }
+    ensures { OnOk result (out.new.items ≡ out.old.items ++ status_id (slice_get channels.now channel)) }
 {
     match channels.get(channel as usize) {
         Some(channel) => out.extend_from_slice(channel.id.items()),

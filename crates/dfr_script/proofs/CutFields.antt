@@ -9,7 +9,7 @@ use Rattle.std.proofs.lemmas.List.Elements.{filter_map-append}
 use Rattle.std.proofs.lemmas.List.Splits.{slice_split_first}
 use Rattle.comtrade_values.specs.Spelling.{trimmed}
 use Rattle.comtrade_values.specs.Lines.{texts}
-use Rattle.comtrade_values.proofs.Cuts.{before_some, after_some}
+use Rattle.comtrade_values.proofs.Cuts.{place_none, before_some, after_some}
 use Rattle.dfr_script.specs.ScanLines.{is_comma, fields}
 
 -- without an element that passes there is one part
@@ -23,10 +23,6 @@ split_none p (x ∷ xs) h = with_test (λ k. split_none p xs k) (p x) refl
         let k : suc (length xs) ≤ 1 + position_or_len p xs = rw e at h in
         rw (e, rest (omega arith)) refl
 
-none_is_end : (i n : ℕ) (b : Bool) → ltb i n ≡ b → cond b (Some i) None ≡ None → n ≤ i
-none_is_end i n true t e = absurd cc
-none_is_end i n false t e = omega (arith, ltb-false)
-
 some_is_within : (i n at : ℕ) (b : Bool) → ltb i n ≡ b → cond b (Some i) None ≡ Some at → i < n
 some_is_within i n at true t e = omega (arith, ltb-true)
 some_is_within i n at false t e = absurd cc
@@ -34,7 +30,7 @@ some_is_within i n at false t e = absurd cc
 pub fields_none : (text : List ℕ) → position is_comma text ≡ None → fields text ≡ trimmed text ∷ []
 unfolding fields
 fields_none text e =
-    ap (map trimmed) (split_none is_comma text (none_is_end (position_or_len is_comma text) (length text) _ refl e))
+    ap (map trimmed) (split_none is_comma text (place_none (position_or_len is_comma text) (length text) _ refl e))
 
 pub fields_some : (text : List ℕ) (at : ℕ) → position is_comma text ≡ Some at → fields text ≡ trimmed (take at text) ∷ fields (drop (at + 1) text)
 unfolding fields

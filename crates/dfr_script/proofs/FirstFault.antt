@@ -10,7 +10,7 @@ use Rattle.dfr_script.specs.declared.fault.LineRefusal.TheVariants as line_refus
 use Rattle.dfr_script.specs.declared.fault.ScriptFault.{ScriptFault}
 use Rattle.dfr_script.specs.declared.fault.ScriptRefusal.{ScriptRefusal}
 use Rattle.dfr_script.specs.Faults as of_line
-use Rattle.dfr_script.specs.Faults.{and_then}
+use Rattle.dfr_channels.specs.LineFields.{and_then}
 use Rattle.dfr_script.specs.Parts.{DraftParts, CommandParts, RecorderSetupParts}
 use Rattle.dfr_script.specs.Drafts.{empty, with_line, whole}
 use Rattle.dfr_script.specs.Commands.{with_command}

@@ -7,69 +7,17 @@ use Rattle.std.proofs.lemmas.List.{drop_more, drop_all, append_assoc, take_more_
 use Rattle.comtrade_values.specs.Fields.{bit}
 use Rattle.dfr_script.specs.Fields.{reads_all}
 use Rattle.dfr_script.specs.ScanLines.{fields}
-use Rattle.dfr_script.specs.PlainBits.{AreBits}
-
-pub bit_zero : bit (48 ∷ []) ≡ Some false
-unfolding bit
-bit_zero = refl
-
-pub bit_one : bit (49 ∷ []) ≡ Some true
-unfolding bit
-bit_one = refl
-
-bit_digit : (d : ℕ) → (d ≡ 48) ⊎ (d ≡ 49) → bit (d ∷ []) ≡ Some (d == 49)
-bit_digit d is = ⊎_elim (λ e. rw e bit_zero) (λ e. rw e bit_one) is
-
-zero_first : (rest : List ℕ) → fields (48 ∷ 44 ∷ rest) ≡ (48 ∷ []) ∷ fields rest
-unfolding fields
-zero_first rest = refl
-
-one_first : (rest : List ℕ) → fields (49 ∷ 44 ∷ rest) ≡ (49 ∷ []) ∷ fields rest
-unfolding fields
-one_first rest = refl
-
-zero_last : fields (48 ∷ []) ≡ (48 ∷ []) ∷ []
-unfolding fields
-zero_last = refl
-
-one_last : fields (49 ∷ []) ≡ (49 ∷ []) ∷ []
-unfolding fields
-one_last = refl
-
-digit_first : (d : ℕ) (rest : List ℕ) → (d ≡ 48) ⊎ (d ≡ 49) → fields (d ∷ 44 ∷ rest) ≡ (d ∷ []) ∷ fields rest
-digit_first d rest is = ⊎_elim (λ e. rw e (zero_first rest)) (λ e. rw e (one_first rest)) is
-
-digit_last : (d : ℕ) → (d ≡ 48) ⊎ (d ≡ 49) → fields (d ∷ []) ≡ (d ∷ []) ∷ []
-digit_last d is = ⊎_elim (λ e. rw e zero_last) (λ e. rw e one_last) is
+use Rattle.comtrade_values.specs.PlainBits.{AreBits}
+use Rattle.comtrade_values.proofs.PlainBits.{bit_digit, next_bit}
 
 -- the fields from place i of n on
 abbrev pub fields_from : List ℕ → ℕ → ℕ → List (List ℕ)
 fields_from text n i = cond (ltb i n) (fields (drop (2 * i) text)) []
 
 module _ (text : List ℕ) (n : ℕ) (are : AreBits text n) (exact : length text + 1 ≡ 2 * n) where
-  digit_at : ℕ → ℕ
-  digit_at i = slice_index text (2 * i)
-
-  inner : (i : ℕ) → i + 1 < n → fields (drop (2 * i) text) ≡ (slice_index text (2 * i) ∷ []) ∷ fields (drop (2 * (i + 1)) text)
-  inner i less =
-      let here = drop_more text (2 * i) 0 (omega arith) in
-      let next = drop_more text (2 * i + 1) 0 (omega arith) in
-      let places : 2 * i + 1 + 1 ≡ 2 * (i + 1) = omega arith in
-      let cut : drop (2 * i) text ≡ slice_index text (2 * i) ∷ 44 ∷ drop (2 * (i + 1)) text = here ∙ ap (λ l. slice_index text (2 * i) ∷ l) (next ∙ rw (are.commas i less, places) refl) in
-      ap fields cut ∙ digit_first (slice_index text (2 * i)) (drop (2 * (i + 1)) text) (are.digits i (omega arith))
-
-  final : (i : ℕ) → i + 1 ≡ n → fields (drop (2 * i) text) ≡ (slice_index text (2 * i) ∷ []) ∷ []
-  final i is =
-      let here = drop_more text (2 * i) 0 (omega arith) in
-      let cut : drop (2 * i) text ≡ slice_index text (2 * i) ∷ [] = here ∙ ap (λ l. slice_index text (2 * i) ∷ l) (drop_all (2 * i + 1) text (omega arith)) in
-      ap fields cut ∙ digit_last (slice_index text (2 * i)) (are.digits i (omega arith))
-
   pub next_field : (i : ℕ) → i < n → fields_from text n i ≡ (slice_index text (2 * i) ∷ []) ∷ fields_from text n (i + 1)
-  next_field i less = with_test (ltb (i + 1) n) refl
-    where
-      with_test : (b : Bool) → ltb (i + 1) n ≡ b → fields_from text n i ≡ (slice_index text (2 * i) ∷ []) ∷ fields_from text n (i + 1)
-      with_test true t = rw (lt-ltb i n less, t) (inner i (ltb-true (i + 1) n t))
-      with_test false t = let is : i + 1 ≡ n = omega (arith, ltb-false (i + 1) n t) in rw (lt-ltb i n less, t) (final i is)
+  unfolding fields
+  next_field i less = next_bit text n are exact i less
 
   pub next_reads : (i : ℕ) → i < n → reads_all bit (fields_from text n i) ≡ reads_all bit (fields_from text n (i + 1))
   next_reads i less = rw (next_field i less, bit_digit (slice_index text (2 * i)) (are.digits i less)) refl

@@ -7,7 +7,7 @@ use Rattle.dfr_script.specs.declared.command.Command.{Command}
 use Rattle.dfr_script.specs.declared.command.Command.TheVariants as command
 use Rattle.dfr_script.specs.declared.command.Verb.{Verb}
 use Rattle.dfr_script.specs.declared.command.Verb.TheVariants as verbs
-use Rattle.dfr_script.specs.Faults.{and_then}
+use Rattle.dfr_channels.specs.LineFields.{and_then}
 use Rattle.dfr_script.specs.Words.{word, rest, is_silent}
 use Rattle.dfr_script.specs.RuleLines.{rules}
 use Rattle.dfr_script.specs.ScanLines.{scan}

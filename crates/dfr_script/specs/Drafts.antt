@@ -1,6 +1,6 @@
 -- What the lines of a set-up say, one after the other.
 use Rattle.std.specs.Prelude.{ℕ, ℤ, Bool, true, false, if◌then◌else◌, List, [], ◌∷◌, ◌++◌, Option, Some, None, is_some, unwrap_or, Result, Ok, Err}
-use Rattle.dfr_channels.specs.LineFields.{need}
+use Rattle.dfr_channels.specs.LineFields.{and_then, need}
 use Rattle.comtrade_values.specs.Spelling.{decimal_number}
 use Rattle.dfr_script.specs.declared.fault.LineFault.{LineFault}
 use Rattle.dfr_script.specs.declared.fault.LineFault.TheVariants as fault
@@ -8,7 +8,6 @@ use Rattle.dfr_script.specs.declared.setting.Setting.{Setting}
 use Rattle.dfr_script.specs.declared.setting.Setting.TheVariants.{Station, Device, Analog, Status, Freq, Rate, Start, Limits, Rules}
 use Rattle.dfr_script.specs.declared.fault.Word.{Word}
 use Rattle.dfr_script.specs.declared.fault.Word.TheVariants as words
-use Rattle.dfr_script.specs.Faults.{and_then}
 use Rattle.dfr_script.specs.Words.{word, rest, is_silent}
 use Rattle.dfr_script.specs.Fields.{natural, instant, single}
 use Rattle.dfr_script.specs.Channels.{analog_line, status_line}

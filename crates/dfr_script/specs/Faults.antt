@@ -14,11 +14,6 @@ abbrev pub Is : {X Y : Type 0} → (X → Y) → Result Y LineFault → Result X
 Is view said (Ok x) = said ≡ Ok (view x)
 Is view said (Err e) = Refuses said e
 
--- what is said, and what follows from it
-abbrev pub and_then : {A B F : Type 0} → Result A F → (A → Result B F) → Result B F
-and_then (Err fault) more = Err fault
-and_then (Ok x) more = more x
-
 -- what can be read, or the fault of what can't
 abbrev pub Field : {X : Type 0} → Option X → Result X LineRefusal → Type 0
 Field read (Ok x) = read ≡ Some x

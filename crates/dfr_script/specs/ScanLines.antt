@@ -10,7 +10,7 @@ use Rattle.dfr_channels.specs.declared.scan.Reading.TheVariants.{Value, Missing}
 use Rattle.dfr_script.specs.declared.fault.LineFault.{LineFault}
 use Rattle.dfr_script.specs.declared.fault.LineFault.TheVariants as fault
 use Rattle.comtrade_values.specs.Fields.{bit}
-use Rattle.dfr_script.specs.Faults.{and_then}
+use Rattle.dfr_channels.specs.LineFields.{and_then}
 use Rattle.dfr_script.specs.Fields.{small, all_said}
 
 abbrev pub is_slash : ℕ → Bool

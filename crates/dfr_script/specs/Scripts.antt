@@ -13,7 +13,7 @@ use Rattle.dfr_script.specs.declared.fault.LineRefusal.TheVariants as line_refus
 use Rattle.dfr_script.specs.declared.fault.ScriptFault.{ScriptFault}
 use Rattle.dfr_script.specs.declared.fault.ScriptRefusal.{ScriptRefusal}
 use Rattle.dfr_script.specs.declared.fault.ScriptRefusal.TheVariants.{Fault, Memory}
-use Rattle.dfr_script.specs.Faults.{and_then}
+use Rattle.dfr_channels.specs.LineFields.{and_then}
 use Rattle.dfr_script.specs.Words as words
 use Rattle.dfr_script.specs.Drafts.{empty, dated, with_line, whole}
 use Rattle.dfr_script.specs.Commands.{with_command}

@@ -7,9 +7,10 @@ ghost use Rattle.dfr_script.specs.Words as words;
 ghost use Rattle.dfr_script.specs.Commands as spec;
 
 use crate::fault::{LineFault, LineRefusal};
-use crate::line::{cut, is_silent, is_word};
+use crate::line::{cut, is_silent};
 use crate::rule_line::rules_of;
 use crate::scan_line::{ScanSize, scan_of};
+use comtrade_values::is_word;
 use dfr_channels::{Rule, Scan};
 use std::alloc::{Allocator, Global};
 

@@ -39,10 +39,7 @@ pub(crate) fn small_of(text: &[u8]) -> Option<i32>
 pub(crate) fn natural_of(text: &[u8]) -> Option<u32>
     ensures { result ≡ spec.natural text.now }
 {
-    match integer_of(text) {
-        Some(n) if 0 <= n && n <= u32::MAX as i128 => Some(n as u32),
-        _ => None,
-    }
+    comtrade_values::natural_of(text)
 }
 
 /// Reads a whole number that fits an i64; None otherwise.

@@ -8,8 +8,7 @@ ghost use Rattle.comtrade_values.specs.Lines.{texts};
 
 use crate::fault::{LineFault, LineRefusal};
 use crate::fields::natural_at;
-use crate::line::is_word;
-use comtrade_values::fields_of;
+use comtrade_values::{fields_of, is_word};
 use std::alloc::Allocator;
 
 /// The numbers of a `limits` line. They are not checked here: `Limits::new` of `dfr_recorder` does

@@ -1,30 +1,15 @@
 //! The first word of a line, and the rest of the line.
 
 ghost use Rattle.std.specs.Prelude.{◌≡◌, position};
-ghost use Rattle.std.specs.Str.{bytes_eq};
 ghost use Rattle.comtrade_values.specs.Lines.{is_blank_line};
 ghost use Rattle.dfr_script.specs.Words as spec;
 
-use comtrade_values::trim;
-
-/// Whether the byte is a space or a tab.
-pub(crate) fn is_blank(b: u8) -> bool
-    ensures { result ≡ spec.is_blank b }
-{
-    b == b' ' || b == b'\t'
-}
+use comtrade_values::{is_blank, trim};
 
 fn place_of_blank(line: &[u8]) -> Option<usize>
     ensures { result ≡ position spec.is_blank line.now }
 {
     line.iter().position(|b| is_blank(*b))
-}
-
-/// Whether the word is exactly this text.
-pub(crate) fn is_word(word: &[u8], text: &str) -> bool
-    ensures { result ≡ bytes_eq word.now text.now }
-{
-    word == text.as_bytes()
 }
 
 /// The text before the first blank, and the rest without surrounding blanks. Most lines are scans,

@@ -1,24 +1,12 @@
 //! Bits in plain spelling (one digit each), read in two passes without a branch.
 
-ghost use Rattle.std.specs.Prelude.{◌≡◌, ◌*◌, ◌+◌, IfOk, IfSome, None, length, position, true};
-ghost use Rattle.dfr_script.specs.PlainBits.{AreBits, ReadsBits};
+ghost use Rattle.std.specs.Prelude.{◌≡◌, ◌*◌, ◌+◌, IfOk, IfSome, None, length, position};
+ghost use Rattle.comtrade_values.specs.PlainBits.{AreBits};
+ghost use Rattle.dfr_script.specs.PlainBits.{ReadsBits};
 ghost use Rattle.dfr_script.specs.ScanLines.{is_slash};
 
+use comtrade_values::are_bits;
 use std::alloc::{AllocError, Allocator};
-
-/// Whether a text of this length is `count` digits 0 and 1 with a comma between each two.
-fn are_bits(text: &[u8], count: usize) -> bool
-    requires { length text.now + 1 ≡ 2 * count }
-    ensures { result ≡ true → AreBits text.now count }
-{
-    let mut all = true;
-    for i in 0..count - 1 {
-        let digit = text[2 * i];
-        all = all & (digit == b'0' || digit == b'1') & (text[2 * i + 1] == b',');
-    }
-    let last = text[2 * (count - 1)];
-    all & (last == b'0' || last == b'1')
-}
 
 /// Fills the slot with the bits of a text.
 fn write_bits(slot: &mut [bool], text: &[u8])

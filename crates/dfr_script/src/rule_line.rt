@@ -8,7 +8,7 @@ ghost use Rattle.comtrade_values.specs.Lines.{texts};
 
 use crate::fault::{LineFault, LineRefusal};
 use crate::fields::{natural_of, needed, small_of};
-use crate::line::{is_blank, is_word};
+use comtrade_values::{is_blank, is_word};
 use dfr_channels::Rule;
 use std::alloc::{AllocError, Allocator};
 

@@ -10,10 +10,10 @@ ghost use Rattle.dfr_script.specs.ScanLines as spec;
 
 use crate::fault::{LineFault, LineRefusal};
 use crate::fields::{needed, small_of};
-use crate::line::{is_bare, is_word};
+use crate::line::is_bare;
 use crate::plain::plain_field;
 use crate::plain_bits::plain_bits;
-use comtrade_values::{bit_of, trim};
+use comtrade_values::{bit_of, is_word, trim};
 use dfr_channels::{Reading, Scan};
 use memchr::memchr;
 use std::alloc::Allocator;

@@ -3,7 +3,7 @@
 ghost use Rattle.std.specs.Prelude.{◌≡◌};
 ghost use Rattle.dfr_script.specs.Settings as spec;
 
-use crate::line::is_word;
+use comtrade_values::is_word;
 
 /// What a line before `go` sets.
 #[derive(Clone, Copy, PartialEq, Eq)]

@@ -2,6 +2,7 @@
 use Rattle.std.proofs.Common.{◌≡◌, ◌∙◌, sym, ap, ℕ, ◌+◌, ◌<◌, ◌≤◌, inl, inr, Bool, List, [], ◌∷◌, ◌++◌, length, map, take, drop, set, get_or, Option, Some, arith, append_assoc}
 use Rattle.std.proofs.lemmas.List.{append-nil, map-append, length-map, length-append, length-take, length-drop, length-take-le, take_more, drop_more, take_all, drop_all, take_at, get_or_at, set_at}
 use Rattle.std.proofs.lemmas.Option.{slice_get_cases}
+use Rattle.comtrade_values.proofs.Lists.{within, taken_more, item_at, list_more}
 use Rattle.dfr_sequence.specs.Scans.{Came, came, newest, place_after, placed}
 use Rattle.dfr_sequence.specs.Contacts.{Wanted, Kept, kept, told_now, IsStep}
 use Rattle.dfr_sequence.specs.Sequences as spec
@@ -17,43 +18,6 @@ Stepped old place bits before after new i =
 
 pub stepped_none : (old : List Kept) (place : Place) (bits : List Bool) (before : List Change) → Stepped old place bits before before old 0
 stepped_none old place bits before ws past h = (append-nil before, h)
-
--- of two lists of one length, the first i of one and the rest of the other
-within : {W X : Type 0} (f g : W → X) (ws : List W) (i : ℕ) (new : List X) → map f (take i ws) ++ map g (drop i ws) ≡ new → i < length new → i < length ws
-within f g ws i new e lt =
-    let whole = ap length e in
-    let parts = length-append (map f (take i ws)) (map g (drop i ws)) in
-    let front = length-map (take i ws) f in
-    let back = length-map (drop i ws) g in
-    let taken = length-take i ws in
-    let dropped = length-drop i ws in
-    omega (arith, whole, parts, front, back, taken, dropped)
-
-front_long : {W X : Type 0} (f : W → X) (ws : List W) (i : ℕ) → i < length ws → length (map f (take i ws)) ≡ i
-front_long f ws i lt = length-map (take i ws) f ∙ length-take-le i ws (omega arith)
-
-next_of : {W : Type 0} (ws : List W) (w : W) (i : ℕ) → i < length ws → get_or ws i w ≡ w → drop i ws ≡ w ∷ drop (i + 1) ws
-next_of {W = W} ws w i lt e = drop_more ws i w lt ∙ ap (λ (v : W). v ∷ drop (i + 1) ws) e
-
-taken_more : {W : Type 0} (ws : List W) (w : W) (i : ℕ) → i < length ws → get_or ws i w ≡ w → take (i + 1) ws ≡ take i ws ++ w ∷ []
-taken_more {W = W} ws w i lt e = take_more ws i w lt ∙ ap (λ (v : W). take i ws ++ v ∷ []) e
-
--- the first of the rest
-item_at : {W X : Type 0} (f g : W → X) (ws : List W) (w : W) (i : ℕ) (new : List X) (d : X) → i < length ws → get_or ws i w ≡ w → map f (take i ws) ++ map g (drop i ws) ≡ new → get_or new i d ≡ g w
-item_at {W = W} {X = X} f g ws w i new d lt e is =
-    let opened : map f (take i ws) ++ (g w ∷ map g (drop (i + 1) ws)) ≡ new = ap (λ (us : List W). map f (take i ws) ++ map g us) (sym (next_of ws w i lt e)) ∙ is in
-    ap (λ (us : List X). get_or us i d) (sym opened) ∙ get_or_at (map f (take i ws)) (g w) (map g (drop (i + 1) ws)) d i (front_long f ws i lt)
-
-list_more : {W X : Type 0} (f g : W → X) (ws : List W) (w : W) (i : ℕ) (new : List X) (y : X) → i < length ws → get_or ws i w ≡ w → map f (take i ws) ++ map g (drop i ws) ≡ new → f w ≡ y → map f (take (i + 1) ws) ++ map g (drop (i + 1) ws) ≡ set new i y
-list_more {W = W} {X = X} f g ws w i new y lt e is made =
-    let rest = map g (drop (i + 1) ws) in
-    let opened : map f (take i ws) ++ (g w ∷ rest) ≡ new = ap (λ (us : List W). map f (take i ws) ++ map g us) (sym (next_of ws w i lt e)) ∙ is in
-    ap (λ (us : List W). map f us ++ rest) (taken_more ws w i lt e)
-    ∙ ap (λ (us : List X). us ++ rest) (map-append f (take i ws) (w ∷ []))
-    ∙ append_assoc (map f (take i ws)) (f w ∷ []) rest
-    ∙ ap (λ (v : X). map f (take i ws) ++ v ∷ rest) made
-    ∙ sym (set_at (map f (take i ws)) (g w) rest y i (front_long f ws i lt))
-    ∙ ap (λ (us : List X). set us i y) opened
 
 -- what is told of one contact more
 told_last : (ws : List Wanted) (w : Wanted) (now : Came) (past : List Came) → all_told (ws ++ w ∷ []) now past ≡ all_told ws now past ++ listed (told_now w now past)

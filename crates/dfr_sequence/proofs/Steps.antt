@@ -1,18 +1,13 @@
 -- One scan more for a contact: what is kept of a history gives what is kept of the longer one.
 use Rattle.std.proofs.Common.{◌≡◌, ◌∙◌, sym, ap, refl, ℕ, zero, suc, ◌+◌, ◌-◌, ◌≤◌, min, Bool, true, false, List, [], ◌∷◌, ◌++◌, length, map, take, Option, Some, None, arith}
 use Rattle.std.specs.Prelude.{slice_get, if◌then◌else◌}
-use Rattle.std.proofs.lemmas.List.{take-take}
+use Rattle.comtrade_values.proofs.Lists.{take_again, take_none}
 use Rattle.dfr_sequence.specs.Scans.{came}
 use Rattle.dfr_sequence.specs.declared.change.Limit.{Limit}
 use Rattle.dfr_sequence.specs.Contacts.{Wanted, wanted, Told, Kept, kept, kept_by, kept_of, state, differ, flip, heard, heard_by, told_at, change_at, count, change_of, told_of, is_apart, may_tell, tell, noted, tells, told_by, after_if, after_telling, IsStep}
 use Rattle.dfr_sequence.specs.declared.place.Place.{Place}
 use Rattle.dfr_sequence.specs.declared.change.Flip.{Flip}
 use Rattle.dfr_sequence.specs.declared.change.Change.{Change}
-
--- an item more than n of the last n
-take_again : {X : Type 0} (n : ℕ) (x : X) (xs : List X) → take n (x ∷ take n xs) ≡ take n (x ∷ xs)
-take_again zero x xs = refl
-take_again {X = X} (suc n) x xs = ap (λ (ys : List X). x ∷ ys) (take-take n (suc n) xs (omega arith))
 
 -- the last of n items
 last_get : {X : Type 0} (n : ℕ) (xs : List X) → slice_get (take (suc n) xs) n ≡ slice_get xs n
@@ -85,10 +80,6 @@ stepped old noted_at new place bits told some is_noted is_told is_left w past e 
       telling w on before.told waiting place.scan lim ∙ ap (λ (k : Kept). told_by k place.scan) known ∙ sym is_told,
       leaving w on before.told waiting place.scan lim ∙ ap (λ (k : Kept). after_telling k place.scan) known ∙ sym is_left,
     )
-
-take_none : {X : Type 0} (n : ℕ) → take {A = X} n [] ≡ []
-take_none zero = refl
-take_none (suc n) = refl
 
 -- no scan has come
 pub begun : (channel : ℕ) (limit : Limit) (normal : Bool) (recent : List ℕ) → recent ≡ [] → kept_by channel limit normal None 0 recent ≡ kept (wanted channel limit normal) []

@@ -1,7 +1,7 @@
 -- The lines of a file of events, behind the first one.
 use Rattle.std.specs.Prelude.{ℕ, ◌+◌, ℤ, pos, neg_ℤ, int_le, Bool, true, false, ◌&&◌, if◌then◌else◌, List, [], ◌++◌, codes, decimal, Option, Some, None, slice_get}
 use Rattle.comtrade_values.specs.Dates.{civil_text}
-use Rattle.dfr_channels.specs.Parts.{SetupParts, StatusParts}
+use Rattle.dfr_channels.specs.Parts.{SetupParts, StatusParts, status_id}
 use Rattle.dfr_sequence.specs.Contacts.{differ}
 use Rattle.dfr_sequence.specs.declared.change.Change.{Change}
 
@@ -17,11 +17,6 @@ instant_text (Some t) = if has_date t then civil_text 32 t else codes "?"
 unfoldable pub names_text : SetupParts → List ℕ
 names_text s = codes "," ++ s.station ++ codes "," ++ s.device ++ codes ","
 
--- the id of a contact; nothing where there is no such contact
-abbrev pub id_text : Option StatusParts → List ℕ
-id_text None = []
-id_text (Some c) = c.id
-
 abbrev pub state_text : Bool → List ℕ
 state_text true = codes ",1,"
 state_text false = codes ",0,"
@@ -34,7 +29,7 @@ is_text (Some c) on = if differ c.normal on then codes "off-normal" else codes "
 -- a contact, counted from 1: its id, its new state, whether that is the normal one
 unfoldable pub contact_text : SetupParts → ℕ → Bool → List ℕ
 contact_text s channel on =
-    decimal (channel + 1) ++ codes "," ++ id_text (slice_get s.status channel) ++ (state_text on ++ is_text (slice_get s.status channel) on)
+    decimal (channel + 1) ++ codes "," ++ status_id (slice_get s.status channel) ++ (state_text on ++ is_text (slice_get s.status channel) on)
 
 -- for how many changes the line stands, how many scans were lost before, the scan
 unfoldable pub counts_text : Change → List ℕ

@@ -1,6 +1,7 @@
 //! The lines of a file of events.
 
 ghost use Rattle.std.specs.Prelude.{◌≡◌, ◌++◌, OnOk, option_copied, slice_get};
+ghost use Rattle.dfr_channels.specs.Parts.{status_id};
 ghost use Rattle.dfr_sequence.specs.Lines as spec;
 
 use crate::Change;
@@ -39,7 +40,7 @@ fn put_id<A: Allocator>(
     out: &mut Vec<u8, A>,
     contact: Option<&StatusChannel<A>>,
 ) -> Result<(), AllocError>
-    ensures { OnOk result (out.new.items ≡ out.old.items ++ spec.id_text (option_copied contact.entry)) }
+    ensures { OnOk result (out.new.items ≡ out.old.items ++ status_id (option_copied contact.entry)) }
 {
     match contact {
         Some(contact) => out.extend_from_slice(contact.id.items()),

@@ -11,7 +11,8 @@ use Rattle.dfr_setup.specs.Addends.{SumParts}
 use Rattle.dfr_setup.specs.Plans as plans
 use Rattle.dfr_setup.specs.Quantities as quantity
 use Rattle.dfr_setup.specs.Tests as tests
-use Rattle.dfr_setup.specs.Refusing.{and_then, needed, Is, Makes, Refuses}
+use Rattle.dfr_channels.specs.LineFields.{and_then}
+use Rattle.dfr_setup.specs.Refusing.{needed, Is, Makes, Refuses}
 use Rattle.dfr_setup.specs.declared.tested.Test.{Test}
 use Rattle.dfr_setup.specs.declared.wish.Wish.{Wish}
 use Rattle.dfr_setup.specs.declared.fault.DetectorFault.{DetectorFault}

@@ -3,11 +3,11 @@ use Rattle.std.specs.Prelude.{ℕ, ◌+◌, ◌==◌, max, Bool, true, false, �
 use Rattle.std.specs.Str.{bytes_eq}
 use Rattle.comtrade_values.specs.Faults.{◌or◌, fault_unless}
 use Rattle.comtrade_values.specs.Spelling.{Number, is_same}
-use Rattle.dfr_channels.specs.LineFields.{need}
+use Rattle.dfr_channels.specs.LineFields.{and_then, need}
 use Rattle.dfr_channels.specs.Parts.{AnalogParts}
 use Rattle.dfr_setup.specs.declared.tested.Test.{Test}
 use Rattle.dfr_setup.specs.declared.tested.Test.TheVariants.{RmsOver, RmsUnder, Change, Jump, FrequencyOver, FrequencyUnder, FrequencyChange, Harmonic, SequenceOver, SequenceUnder, Unbalance}
-use Rattle.dfr_setup.specs.Refusing.{and_then, unless}
+use Rattle.dfr_setup.specs.Refusing.{unless}
 use Rattle.dfr_setup.specs.Wishes.{natural}
 use Rattle.dfr_setup.specs.declared.fault.DetectorFault.{DetectorFault}
 use Rattle.dfr_setup.specs.declared.fault.DetectorFault.TheVariants as fault

@@ -6,7 +6,7 @@ use Rattle.comtrade_values.specs.Faults.{◌or◌, fault_unless}
 use Rattle.comtrade_values.specs.Lines.{field}
 use Rattle.comtrade_values.specs.Spelling.{Number, whole_number}
 use Rattle.comtrade_values.specs.Texts.{is_plain}
-use Rattle.dfr_channels.specs.LineFields.{need}
+use Rattle.dfr_channels.specs.LineFields.{and_then, need}
 use Rattle.dfr_channels.specs.Parts.{AnalogParts, SetupParts, StatusParts}
 use Rattle.dfr_detect.specs.Detection.{Wanted, wanted}
 use Rattle.dfr_detect.specs.Fitting.{settings_fault}
@@ -16,7 +16,7 @@ use Rattle.dfr_detect.specs.declared.settings.SettingsFault.TheVariants.{Scans, 
 use Rattle.dfr_setup.specs.Addends.{SumParts, no_sum}
 use Rattle.dfr_setup.specs.Addends as addends
 use Rattle.dfr_setup.specs.Quantities.{level_in, least_in, one_of, periods, reach, window_in, within}
-use Rattle.dfr_setup.specs.Refusing.{and_then, unless}
+use Rattle.dfr_setup.specs.Refusing.{unless}
 use Rattle.dfr_setup.specs.Tests.{condition_of, has_phases}
 use Rattle.dfr_setup.specs.Units.{has_units}
 use Rattle.dfr_setup.specs.Wishes.{is_detect, is_go, words, wish}

@@ -19,11 +19,6 @@ abbrev pub Makes : {X Y : Type 0} → Result Y DetectorFault → Y → Result X 
 Makes said new (Ok x) = said ≡ Ok new
 Makes said new (Err e) = Refuses said e
 
--- what is said, and what follows from it
-abbrev pub and_then : {A B F : Type 0} → Result A F → (A → Result B F) → Result B F
-and_then (Err fault) more = Err fault
-and_then (Ok x) more = more x
-
 -- a value that is needed
 abbrev pub needed : {A : Type 0} → Option A → DetectorFault → Result A DetectorFault
 needed value fault = need value fault (λ x. Ok x)

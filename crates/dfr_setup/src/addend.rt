@@ -7,9 +7,8 @@ ghost use Rattle.comtrade_values.specs.Lines.{texts};
 ghost use Rattle.dfr_setup.specs.Addends as spec;
 ghost use Rattle.dfr_setup.specs.Refusing.{Is, Makes};
 
-use crate::line::natural_of;
 use crate::{DetectorFault, DetectorRefusal, Test};
-use comtrade_values::Decimal;
+use comtrade_values::{Decimal, natural_of};
 use dfr_channels::AnalogChannel;
 use std::alloc::{AllocError, Allocator, Global};
 use std::marker::Model;

@@ -2,20 +2,12 @@
 
 ghost use Rattle.std.specs.Prelude.{◌≡◌, IfOk, position};
 ghost use Rattle.std.specs.List.{after_first};
-ghost use Rattle.std.specs.Str.{bytes_eq};
 ghost use Rattle.comtrade_values.specs.Lines.{texts, field};
 ghost use Rattle.comtrade_values.specs.Spelling as spelling;
 ghost use Rattle.dfr_setup.specs.Wishes as spec;
 
-use comtrade_values::{integer_of, trim};
+use comtrade_values::{is_blank, is_word, trim};
 use std::alloc::{AllocError, Allocator};
-
-/// Whether the byte is a space or a tab.
-pub(crate) fn is_blank(b: u8) -> bool
-    ensures { result ≡ spelling.is_blank b }
-{
-    b == b' ' || b == b'\t'
-}
 
 fn word_end(line: &[u8]) -> Option<usize>
     ensures { result ≡ position spelling.is_blank line.now }
@@ -43,13 +35,6 @@ pub(crate) fn rest_of(line: &[u8]) -> &[u8]
         Some(end) => trim(&line[end + 1..]),
         None => &[],
     }
-}
-
-/// Whether the word is exactly this text.
-pub(crate) fn is_word(word: &[u8], text: &str) -> bool
-    ensures { result ≡ bytes_eq word.now text.now }
-{
-    word == text.as_bytes()
 }
 
 /// Whether the line asks for detectors.
@@ -90,14 +75,4 @@ pub(crate) fn says(words: &[&[u8]], i: usize, text: &str) -> bool
     ensures { result ≡ spec.says (texts words.now) i text.now }
 {
     is_word(word_at(words, i), text)
-}
-
-/// Reads a whole number that fits a u32; None otherwise.
-pub(crate) fn natural_of(text: &[u8]) -> Option<u32>
-    ensures { result ≡ spec.natural text.now }
-{
-    match integer_of(text) {
-        Some(n) if 0 <= n && n <= u32::MAX as i128 => Some(n as u32),
-        _ => None,
-    }
 }

@@ -5,8 +5,8 @@ ghost use Rattle.comtrade_values.specs.Lines.{cut_lines};
 ghost use Rattle.dfr_setup.specs.RulesFiles as spec;
 
 use crate::addend::parts_of;
-use crate::line::{first_word, is_go, is_word, rest_of};
-use comtrade_values::{Lines, put};
+use crate::line::{first_word, is_go, rest_of};
+use comtrade_values::{Lines, is_word, put};
 use std::alloc::{AllocError, Allocator};
 
 /// The path behind an `@`.

@@ -6,8 +6,9 @@ ghost use Rattle.dfr_setup.specs.Units as spec;
 
 use crate::Test;
 use crate::level::Units;
-use crate::line::{is_word, word_at};
+use crate::line::word_at;
 use crate::tested::{is_frequency, is_share};
+use comtrade_values::is_word;
 use dfr_channels::AnalogChannel;
 use std::alloc::Allocator;
 

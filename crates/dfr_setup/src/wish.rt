@@ -8,10 +8,10 @@ ghost use Rattle.dfr_setup.specs.declared.fault.DetectorFault.TheVariants as fau
 
 use crate::fault::needed;
 use crate::level::{Units, has_part, is_part, last_of, level_at, unit_at};
-use crate::line::{natural_of, says, word_at};
+use crate::line::{says, word_at};
 use crate::tested::{is_frequency, is_share};
 use crate::{DetectorFault, Test};
-use comtrade_values::Decimal;
+use comtrade_values::{Decimal, natural_of};
 use dfr_detect::Sequence;
 
 /// What a `detect` line asks for. Its name is word 1, and its channels are two words behind the

@@ -5,7 +5,7 @@ ghost use Rattle.byteorder.specs.Endian.{little_bytes};
 ghost use Rattle.comtrade_values.specs.Written.{padded};
 ghost use Rattle.comtrade_format.specs.Places.{IsShown, WritesPlaces};
 
-use crate::value_text::pair_of;
+use crate::value_text::{pair_of, zeros_before};
 use byteorder::{ByteOrder, LittleEndian};
 
 /// Four digits with leading zeros, the first in the lowest byte.
@@ -30,15 +30,7 @@ fn zeros_of_four(n: u64) -> usize
     requires { n < 10000 }
     ensures { result + length (decimal n) ≡ 4 }
 {
-    if n < 10 {
-        3
-    } else if n < 100 {
-        2
-    } else if n < 1000 {
-        1
-    } else {
-        0
-    }
+    zeros_before(n as u32) - 1
 }
 
 /// Writes a number of at most four digits at `at`, and returns the position after it. Eight bytes

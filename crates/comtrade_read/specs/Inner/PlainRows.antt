@@ -1,5 +1,5 @@
 -- What a row in the writers' spelling says of its fields.
-use Rattle.std.specs.Prelude.{◌≡◌, ℕ, ◌+◌, ◌*◌, ◌<◌, ◌⊎◌, List, ◌∷◌, ◌++◌, length, map, slice_index, Option, Some}
+use Rattle.std.specs.Prelude.{◌≡◌, ℕ, List, ◌∷◌, ◌++◌, length, map, Option, Some}
 
 -- the first field reads as x, and these stand after it
 pub record IsNext {A : Type 0} (read : List ℕ → Option A) (fs : List (List ℕ)) (x : A) (behind : List (List ℕ)) : Type 0 where
@@ -13,8 +13,3 @@ pub record AreNext {A : Type 0} (read : List ℕ → Option A) (fs : List (List 
   pub cut : fs ≡ front ++ behind
   pub says : map read front ≡ map (λ x. Some x) items
   pub many : length items ≡ count
-
--- so many digits 0 or 1, with a comma between each two
-pub record AreBits (text : List ℕ) (count : ℕ) : Type 0 where
-  pub digits : (k : ℕ) → k < count → (slice_index text (2 * k) ≡ 48) ⊎ (slice_index text (2 * k) ≡ 49)
-  pub commas : (k : ℕ) → k + 1 < count → slice_index text (2 * k + 1) ≡ 44

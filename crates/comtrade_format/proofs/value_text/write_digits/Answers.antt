@@ -4,4 +4,4 @@ use Rattle.comtrade_format.proofs.value_text.write_digits.Goals as goal
 
 pub returns-clause-text : goal.returns-clause-text
 returns-clause-text c =
-    digits_stored 5 c.args.slot.now _ c.args.at c.five_digits.result c.args.n _ (omega arith) c.requires.room c.zeros_before-zeros.ensures c.five_digits.ensures c.write_u64.ensures
+    digits_stored 5 c.args.slot.now _ c.args.at c.five_digits.result c.args.n _ (omega arith) c.requires.room c.zeros_before-zeros.ensures.five c.five_digits.ensures c.write_u64.ensures

@@ -18,10 +18,10 @@ pub returns-clause-spelled : goal.returns-clause-spelled
 returns-clause-spelled c =
     let plain = c.is_plain.ensures in
     let yes = c.if-not-is_plain.false in
-    of_digits c.args.text.now c.digits_in.result (λ n. c.args.text.now ≡ decimal n) c.digits_in.ensures.value
+    of_digits c.args.text.now c.short_number.result (λ n. c.args.text.now ≡ decimal n) c.short_number.ensures.value
     (λ digits. decimal_is c.args.text.now digits (plain.some yes) (plain.first yes) (plain.few yes))
 
 pub returns-clause-reads : goal.returns-clause-reads
 returns-clause-reads c = λ n few is.
     let small : n < 2 ^ 64 = omega (arith, few) in
-    reads_digits c.args.text.now n c.digits_in.result c.digits_in.ensures.value (rw is (digits_decimal own n small)) (rw is (digits_value-decimal own n small))
+    reads_digits c.args.text.now n c.short_number.result c.short_number.ensures.value (rw is (digits_decimal own n small)) (rw is (digits_value-decimal own n small))

@@ -12,11 +12,11 @@ returns-then-text-width-clause-reads c = λ n small is.
 pub returns-clause-spelled : goal.returns-clause-spelled
 returns-clause-spelled c =
     let w = c.args.width in
-    of_digits c.args.text.now c.digits_in.result (λ n. c.args.text.now ≡ padded w n) c.digits_in.ensures.value
+    of_digits c.args.text.now c.short_number.result (λ n. c.args.text.now ≡ padded w n) c.short_number.ensures.value
     (λ digits. padded_is w c.args.text.now digits (omega (arith, c.if-text-width.false)) c.requires.some (omega (arith, c.requires.few)))
 
 pub returns-clause-reads : goal.returns-clause-reads
 returns-clause-reads c = λ n small is.
     let w = c.args.width in
     let low = few_digits n w c.requires.few small in
-    reads_digits c.args.text.now n c.digits_in.result c.digits_in.ensures.value (rw is (padded_digits w n low)) (rw is (padded_value w n low))
+    reads_digits c.args.text.now n c.short_number.result c.short_number.ensures.value (rw is (padded_digits w n low)) (rw is (padded_value w n low))

@@ -1,5 +1,5 @@
 use Rattle.std.proofs.Common.{◌≡◌, ◌+◌, ◌*◌, ◌/◌, ℕ, List, None, length, refl, sym, arith}
-use Rattle.dfr_script.specs.PlainBits.{AreBits}
+use Rattle.comtrade_values.specs.PlainBits.{AreBits}
 use Rattle.dfr_script.proofs.FirstByte.{first_is_position}
 use Rattle.dfr_script.proofs.PlainBits.{no_slash}
 use Rattle.dfr_script.proofs.plain_bits.plain_bits.Goals as goal

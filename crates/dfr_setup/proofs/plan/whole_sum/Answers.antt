@@ -1,7 +1,8 @@
 use Rattle.std.proofs.Common.{sym, subst, Result}
 use Rattle.dfr_setup.specs.Addends.{SumParts}
 use Rattle.dfr_setup.specs.Plans as plans
-use Rattle.dfr_setup.specs.Refusing.{and_then, Is}
+use Rattle.dfr_channels.specs.LineFields.{and_then}
+use Rattle.dfr_setup.specs.Refusing.{Is}
 use Rattle.dfr_setup.specs.declared.fault.DetectorFault.{DetectorFault}
 use Rattle.dfr_setup.proofs.plan.whole_sum.Goals as goal
 

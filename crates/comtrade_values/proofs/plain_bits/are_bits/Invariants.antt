@@ -1,5 +1,5 @@
 use Rattle.std.proofs.Common.{◌≡◌, ◌⊎◌, ◌+◌, ◌*◌, ◌<◌, ℕ, true, slice_index}
-use Rattle.dfr_script.proofs.plain_bits.are_bits.Given as goal
+use Rattle.comtrade_values.proofs.plain_bits.are_bits.Given as goal
 
 abbrev pub invariant-loop-i : goal.invariant-loop-i
 invariant-loop-i l = record {
