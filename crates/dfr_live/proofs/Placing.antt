@@ -52,9 +52,6 @@ module _ {A O : Type 0} (Asks : AsksOf A O) (Hears : HearsOf O) where
       (steps : ℕ) → t.pumped ≤ steps → (x ≡ true → steps ≡ t.pumped)
       → (turns : List (Turn A)) × Came (TookTurn Asks Hears steps) (new_desk f) turns (desked g t)
 
-  pub made_first : (f : O) (t : TokenParts) → t.made ≡ [] → t.pumped ≡ 0 → MadeSoFar f f false t
-  made_first f t none zero = λ steps le last. ([], rw (none, zero) refl)
-
   -- what an order that was made adds to the notes
   notes-more : (o : Order A) (t u v : TokenParts) (reply : Option Reply)
       → u.made ≡ t.made → IsMade o u reply v → (v.pumped ≡ u.pumped) × (map noted v.made ≡ map noted t.made ++ noted_of u.pumped o reply)
@@ -272,15 +269,6 @@ module _ {K : Type 0} (Puts : PutsOf K) (Lacks : LacksOf K) (o : Opening) (kind 
     (λ (all : All IsTake t.made). subst (λ (z : TokenParts). All IsTake z.made) (sym same) all),
   )
 
-  pub on-on : (g h i : K) (t u v : TokenParts) (x y z : Out)
-      → GotOn Puts Lacks o kind g t x h u y → GotOn Puts Lacks o kind h u y i v z → GotOn Puts Lacks o kind g t x i v z
-  on-on g h i t u v x y z one two = (
-    two.0 ∙ one.0,
-    two.1 ∙ one.1,
-    (λ (f : K) (far : GotAll Puts Lacks o kind f t.made x g). two.2 f (one.2 f far)),
-    (λ (all : All IsTake t.made). two.3 (one.3 all)),
-  )
-
   -- what was taken, and what handing it on came to
   handed_on-own : (f g : K) (t u : TokenParts) (v w : Out) (r : Result (Option RecordParts) Want) (came : Result Taken LiveFault)
       → NotesTake o t r u → Follows v r w → HandsTaken Puts Lacks o.layout kind f r came g → IfOk came (λ c. GotOn Puts Lacks o kind f t v g u w)
@@ -354,11 +342,6 @@ module _ {K : Type 0} (Puts : PutsOf K) (Lacks : LacksOf K) (o : Opening) (kind 
   export_fails f g h es v (fault.End why) all (inr stopped) = stopped.2
   export_fails f g h es v (fault.End why) all (inl none) = absurd (not-memory (fault.End why) none.0 refl)
 
--- a fault that comes after it leaves it so
-pub or_front : {R E : Type 0} {Front : Type 0} (came : Result R E) (IsOther : E → Type 0) → Front → IfErr came (λ e. IsOther e ⊎ Front)
-or_front (Ok done) IsOther front = tt
-or_front (Err e) IsOther front = inr front
-
 -- a fault that is handed on says what it said
 pub handed_up : {R E : Type 0} (came : Result R E) (e : E) (P : E → Type 0) → IsErrAnd came (λ f. f ≡ e) → P e → IfErr came P
 handed_up (Ok done) e P same h = tt
@@ -374,10 +357,6 @@ if_known (Err e) P Q on h = tt
 -- what is known of what is there
 pub some_has : {X : Type 0} (P : X → Type 0) (o : Option X) (x : X) → o ≡ Some x → IfSome o P → P x
 some_has {X} P o x is h = subst (λ (z : Option X). IfSome z P) is h
-
-pub ok_some_has : {T E : Type 0} (P : T → Type 0) (came : Result (Option T) E) (t : T) → came ≡ Ok (Some t)
-    → IfOk came (λ known. IfSome known P) → P t
-ok_some_has {T} {E} P came t is h = subst (λ (z : Result (Option T) E). IfOk z (λ known. IfSome known P)) is h
 
 pub err_has : {T : Type 0} (P : LiveFault → Type 0) (came : Result T LiveFault) (why : LiveFault) → came ≡ Err why → IfErr came P → P why
 err_has {T} P came why is h = subst (λ (z : Result T LiveFault). IfErr z P) is h

@@ -1,6 +1,6 @@
 -- What a source took in, one answer of the intake after the other.
 use Rattle.std.proofs.Common.{◌≡◌, ◌⊎◌, inl, inr, ℕ, ◌+◌, ◌-◌, ◌≤◌, List, [], ◌∷◌, ◌++◌, replicate, length, Bool, true, refl, sym, ◌∙◌, ap, append_assoc, Result, Ok, Err, arith, length-append}
-use Rattle.std.proofs.lemmas.List.{append-nil, length-replicate, replicate-append-replicate}
+use Rattle.std.proofs.lemmas.List.{append-nil, replicate-append-replicate}
 use Rattle.dfr_channels.specs.Parts.{ScanParts}
 use Rattle.dfr_recorder.specs.Steps.{StepParts}
 use Rattle.dfr_recorder.specs.Steps as step
@@ -12,7 +12,7 @@ use Rattle.dfr_live.specs.declared.station.Fed.{Fed}
 use Rattle.dfr_live.specs.declared.station.Fed.TheVariants as fed
 use Rattle.dfr_live.specs.declared.report.LiveFault.{LiveFault}
 use Rattle.dfr_live.specs.declared.report.LiveFault.TheVariants as fault
-use Rattle.dfr_live.specs.Devices.{GivesOf, LosesOf, TakenFor, Came, steps_given, goes_on, all_taken, taken_in, GaveOne, TookIn, GaveAll}
+use Rattle.dfr_live.specs.Devices.{GivesOf, LosesOf, TakenFor, Came, steps_given, goes_on, all_taken, taken_in, GaveOne, TookIn}
 use Rattle.dfr_live.specs.Causes.{AskFails, AcquisitionFails, CountsNoMore, GaveTooMany}
 use Rattle.dfr_live.proofs.Weaving.{steps_of-append}
 
@@ -54,9 +54,6 @@ module _ {A F : Type 0} (Gives : GivesOf A F) (Loses : LosesOf F) where
   GaveSoFar f g s n =
       (given : List (TakenFor A)) × Came (GaveOne Gives Loses) f given g × (all_taken given ≡ taken_in s) × (n ≡ length (taken_in s))
 
-  pub gave_first : (f : F) (s : SourceParts) → taken_in s ≡ [] → GaveSoFar f f s 0
-  gave_first f s none = ([], refl, sym none, sym (ap length none))
-
   pub gave_more : (f g h : F) (s t : SourceParts) (n k : ℕ) → GaveSoFar f g s n → TookIn Gives Loses g s n h t k → GaveSoFar f h t k
   gave_more f g h s t n k far one =
       let x : TakenFor A = one.0 in
@@ -67,10 +64,6 @@ module _ {A F : Type 0} (Gives : GivesOf A F) (Loses : LosesOf F) where
         ap (λ (l : List StepParts). l ++ x.1) far.2 ∙ sym one.2,
         omega (arith, all, sum, one.3, far.3),
       )
-
-  pub gave_last : (f g h : F) (s t : SourceParts) (n : ℕ)
-      → GaveSoFar f g s n → Gives g (Ok fed.Done) h → t ≡ s → GaveAll Gives Loses f (taken_in t) h
-  gave_last f g h s t n far last same = (far.0, g, far.1, last, far.2 ∙ ap taken_in (sym same))
 
   -- steps that can't be counted on are too many
   too_many : (f g : F) (s : SourceParts) (n : ℕ) → GaveSoFar f g s n → CountsNoMore s n → GaveTooMany Gives Loses f
@@ -86,13 +79,6 @@ module _ {A F : Type 0} (Gives : GivesOf A F) (Loses : LosesOf F) where
   gave_fails f g h s n fault.Memory far last = last
   gave_fails f g h s n (fault.Open why) far last = last
   gave_fails f g h s n (fault.End why) far last = absurd last
-
--- of the steps taken in, those of scans and of the losses before them are all but the losses since
-pub but_last : (s : SourceParts) (n : ℕ) → n ≡ length (taken_in s) → n ≡ length (steps_of s.offered) + s.lost
-but_last s n h =
-    let sum = length-append (steps_of s.offered) (replicate s.lost step.Lost) in
-    let lost = length-replicate s.lost step.Lost in
-    omega (arith, h, sum, lost)
 
 -- items without a step are none
 pub no_items : (left : List LeftParts) → length (steps_of left) ≡ 0 → left ≡ []

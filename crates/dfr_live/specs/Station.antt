@@ -49,6 +49,11 @@ abbrev pub Joins : {H T : Type 0} → (H → T → Type 0) → Option H → Opti
 Joins Keeps None r = r ≡ None
 Joins Keeps (Some h) r = IfSome r (λ x. Keeps h x)
 
+-- so of a thread that could not be started, but whose work its starter has done
+abbrev pub JoinsOrHas : {H T : Type 0} → (H → T → Type 0) → Result H T → T → Type 0
+JoinsOrHas Keeps (Ok h) r = Keeps h r
+JoinsOrHas Keeps (Err done) r = r ≡ done
+
 -- ---- the trigger thread
 
 -- how many scan steps a pump is asked for, where so many were made: as many as are missing up to

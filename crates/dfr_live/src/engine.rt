@@ -1,6 +1,6 @@
 //! One recording in three threads, over any devices.
 
-ghost use Rattle.std.specs.Prelude.{◌≡◌, ◌⊎◌, [], length, All, Err, Some, IfOk, IfErr, IfSome};
+ghost use Rattle.std.specs.Prelude.{◌≡◌, [], length, All, Err, Some, IfOk, IfErr, IfSome};
 ghost use Rattle.dfr_live.specs.Calls.{open_fault};
 ghost use Rattle.dfr_live.specs.Seen.{opening_of};
 ghost use Rattle.dfr_live.specs.Devices.{taken_in, GaveAll, MadeAll, GotAll, GotFront, IsTake};
@@ -67,8 +67,7 @@ pub fn record_with<
     ensures cause { IfErr result (HasCause F.gives F.loses K.puts K.lacks
         (opening_of recorder) kind (open_fault recorder.scans lane 2)
         (feed.old, desk.old, outlet.old) (feed.new, desk.new, outlet.new)) }
-    ensures front { IfErr result (λ fault. (fault ≡ LiveFault.Memory)
-        ⊎ GotFront K.puts K.lacks (opening_of recorder) kind outlet.old outlet.new) }
+    ensures front { GotFront K.puts K.lacks (opening_of recorder) kind outlet.old outlet.new }
 {
     match open_returning(alloc, recorder, lane, returning, 2) {
         Ok(opened) => record_named::<Brand, A, W, F, O, K, P, R>(
@@ -105,8 +104,7 @@ fn record_named<
         N.opening kind (feed.old, desk.old, outlet.old) (feed.new, desk.new, outlet.new) report) }
     ensures cause { IfErr result (RunFails F.gives F.loses K.puts K.lacks N.opening kind
         feed.old outlet.old feed.new outlet.new) }
-    ensures front { IfErr result (λ fault. (fault ≡ LiveFault.Memory)
-        ⊎ GotFront K.puts K.lacks N.opening kind outlet.old outlet.new) }
+    ensures front { GotFront K.puts K.lacks N.opening kind outlet.old outlet.new }
 {
     let (shared, mut source, mut tokens, gone) = opened.share_with::<N>(true);
     let Some(second) = tokens.pop() else {
@@ -155,10 +153,10 @@ fn record_named<
     report(rt, alloc, pace, inner, source, tokens)
 }
 
-/// Runs the three threads. Ok where each did all of its work. The export thread starts first. Where
-/// it cannot start, no other thread starts, and the error is `Memory`; otherwise the outlet comes
-/// back, whatever the error. The acquisition starts last: where another thread cannot start, nothing
-/// is asked of the feed.
+/// Runs the three threads. Ok where each did all of its work. The outlet comes back, whatever the
+/// error. The export thread starts first: where it cannot start, no other thread starts, and the
+/// error is `Memory`. The acquisition starts last: where another thread cannot start, nothing is
+/// asked of the feed.
 fn run_threads<
     's,
     N: Session<A> + Send + Sync,
@@ -199,8 +197,7 @@ fn run_threads<
         × All IsTake second.new.token.made) }
     ensures cause { IfErr result (RunFails F.gives F.loses K.puts K.lacks shared.now kind
         feed.old outlet.old feed.new outlet.new) }
-    ensures front { IfErr result (λ fault. (fault ≡ LiveFault.Memory)
-        ⊎ GotFront K.puts K.lacks shared.now kind outlet.old outlet.new) }
+    ensures front { GotFront K.puts K.lacks shared.now kind outlet.old outlet.new }
 {
     let (exported, triggered, acquired) = in_three_threads(
         rt,
@@ -234,9 +231,6 @@ fn run_threads<
             family: PhantomData,
         },
     );
-    let Some(exported) = exported else {
-        return Err(LiveFault::Memory);
-    };
     let Finished {
         device: filled,
         seat: emptied,

@@ -1,7 +1,7 @@
 //! Runs works in threads of their own; the starter gets their results.
 
-ghost use Rattle.std.specs.Prelude.{◌≡◌, IfSome};
-ghost use Rattle.dfr_live.specs.Station.{Joins};
+ghost use Rattle.std.specs.Prelude.{◌≡◌, IfOk, IfErr, IfSome};
+ghost use Rattle.dfr_live.specs.Station.{Joins, JoinsOrHas};
 
 use crate::signals::Signals;
 use std::snapshot::Snapshot;
@@ -28,6 +28,34 @@ struct Promised<S>(Snapshot<S>);
 
 impl<S: Work<Output = T>, T> Promise<T> for Promised<S> {
     ghost kept_by = { λ p r. S.run_gives p.0.value r };
+}
+
+/// Starts a work in a thread. Where it cannot be started, it tells the other threads, and does the
+/// work here, which stops at its first turn. So what it was lent comes back.
+fn start_or_run<'s, E, S: Work<Output = T> + Send + Drop + 's, T: Send + Drop + 's>(
+    scope: &Scope<'s, E>,
+    signals: &Signals,
+    work: S,
+) -> Result<PromisedHandle<T, Promised<S>>, T>
+    requires { S.can_run work }
+    ensures started { IfOk result (λ h. h.promise.0.value ≡ work) }
+    ensures done { IfErr result (λ r. S.run_gives work r) }
+{
+    let promise = Promised(Snapshot::of(&work));
+    let started = scope.spawn_with(
+        promise,
+        move || -> T
+            requires { S.can_run work }
+            ensures { S.run_gives work result }
+        { work.run() },
+    );
+    match started {
+        Ok(handle) => Ok(handle),
+        Err(refused) => {
+            signals.fail();
+            Err((refused.value)())
+        }
+    }
 }
 
 /// Starts a work in a thread, if `goes_on`. None where it is not started. Where it cannot be
@@ -71,8 +99,22 @@ fn join<R: Threads, S: Work<Output = T>, T: Send + Drop>(
     }
 }
 
-/// Runs three works, each in a thread of its own, and waits for them. None for a work that could
-/// not be started; then those after it are not started either.
+/// Waits for a work, if it was started, and returns its result.
+fn join_or_take<R: Threads, S: Work<Output = T>, T: Send + Drop>(
+    rt: &R,
+    started: Result<PromisedHandle<T, Promised<S>>, T>,
+) -> T
+    ensures { JoinsOrHas (λ h r. S.run_gives h.promise.0.value r) started result }
+{
+    match started {
+        Ok(handle) => handle.join(rt),
+        Err(done) => done,
+    }
+}
+
+/// Runs three works, each in a thread of its own, and waits for them. Where a work cannot be
+/// started, those after it are not started either. None for the second and the third where they were
+/// not; the first is then done here.
 pub(crate) fn in_three_threads<
     R: Threads + Wait,
     S: Work<Output = X> + Send + Drop,
@@ -81,25 +123,25 @@ pub(crate) fn in_three_threads<
     X: Send + Drop,
     Y: Send + Drop,
     Z: Send + Drop,
->(rt: &R, signals: &Signals, first: S, second: T, third: U) -> (Option<X>, Option<Y>, Option<Z>)
+>(rt: &R, signals: &Signals, first: S, second: T, third: U) -> (X, Option<Y>, Option<Z>)
     requires { S.can_run first × T.can_run second × U.can_run third }
-    ensures first { IfSome result.0 (λ r. S.run_gives first r) }
+    ensures first { S.run_gives first result.0 }
     ensures second { IfSome result.1 (λ r. T.run_gives second r) }
     ensures third { IfSome result.2 (λ r. U.run_gives third r) }
 {
     thread::scope(
         thread::scope_env(),
         rt,
-        |scope| -> (Option<X>, Option<Y>, Option<Z>)
+        |scope| -> (X, Option<Y>, Option<Z>)
             requires { S.can_run first × T.can_run second × U.can_run third }
-            ensures first { IfSome result.0 (λ r. S.run_gives first r) }
+            ensures first { S.run_gives first result.0 }
             ensures second { IfSome result.1 (λ r. T.run_gives second r) }
             ensures third { IfSome result.2 (λ r. U.run_gives third r) }
         {
-            let first = start(true, scope, signals, first);
-            let second = start(first.is_some(), scope, signals, second);
+            let first = start_or_run(scope, signals, first);
+            let second = start(first.is_ok(), scope, signals, second);
             let third = start(second.is_some(), scope, signals, third);
-            (join(rt, first), join(rt, second), join(rt, third))
+            (join_or_take(rt, first), join(rt, second), join(rt, third))
         },
     )
 }

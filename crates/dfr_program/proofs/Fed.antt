@@ -52,10 +52,6 @@ calls-noted (e ∷ es) = ap (λ (l : List (ℕ × CallParts)). call_at e ∷ l) 
 none-named : {word : List ℕ} → None ≡ Some word → ⊥
 none-named q = true≢false (sym (ap is_some q))
 
-fronted : {Q : Type 0} (why : LiveFault) (word : List ℕ) → run_word why ≡ Some word → ((why ≡ fault.Memory) ⊎ Q) → Q
-fronted why word named (inl q) = absurd (none-named (sym (ap run_word q) ∙ named))
-fronted why word named (inr front) = front
-
 -- a recorder of a script can be opened, unless an allocation fails
 open-failed : (why : OpenFault) (word : List ℕ) → run_word (fault.Open why) ≡ Some word → ((None ≡ Some why) ⊎ (why ≡ open_refused.Memory)) → ⊥
 open-failed why word named (inl q) = true≢false (sym (ap is_some q))
@@ -154,10 +150,10 @@ module _ {A : Type 0} where
       (f f' : Scans A) (p p' : Placed A) (k k' : K) (came : Result R LiveFault) → scans ≡ 0
       → steps_left f ≡ scans_in s.commands
       → IfErr came (HasCause Feeds never Puts (λ s _ what t. stops s what t) o kind (open_fault scans 1_024 2) (f, p, k) (f', p', k'))
-      → IfErr came (λ why. (why ≡ fault.Memory) ⊎ GotFront Puts (λ s _ what t. stops s what t) o kind k k')
+      → GotFront Puts (λ s _ what t. stops s what t) o kind k k'
       → IfErr came (λ why. (word : List ℕ) → run_word why ≡ Some word → (given_by Puts kind k k' s).Fails o why)
   all_failed Puts kind o s scans f f' p p' k k' (Ok r) new same cause front = tt
   all_failed Puts kind o s scans f f' p p' k k' (Err why) new same cause front = λ word named.
       failed Puts kind o s f f' p p' k k' why word same
       (subst (λ (n : ℕ). HasCause Feeds never Puts (λ s _ what t. stops s what t) o kind (open_fault n 1_024 2) (f, p, k) (f', p', k') why) new cause)
-      (fronted why word named front) named
+      front named

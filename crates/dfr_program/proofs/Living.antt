@@ -1,5 +1,5 @@
 -- The recorder that a script makes, in a live run.
-use Rattle.std.proofs.Common.{◌≡◌, Bool, List, ℕ, Option, Some, None, Result, Ok, Err, sym, subst}
+use Rattle.std.proofs.Common.{◌≡◌, Bool, List, ℕ, Option, Some, None, Result, Ok, Err, inr, sym, subst}
 use Rattle.std.specs.Prelude.{IfOk, IfErr}
 use Rattle.std.specs.Io.KnownBytes.{Appends}
 use Rattle.dfr_recorder.specs.Kept.{Kept}
@@ -13,13 +13,19 @@ use Rattle.dfr_live.specs.declared.report.LiveReport.{LiveReport}
 use Rattle.dfr_recorder.specs.History.{Opening}
 use Rattle.dfr_program.specs.declared.prepared.Fault.{Fault}
 use Rattle.dfr_program.specs.Faults.{IsMadeOf}
-use Rattle.dfr_program.specs.Live.{GivenParts, Ran, TellsCame, TellsOver, TellsLive, PrintsLive}
+use Rattle.comtrade_format.specs.declared.file.Kind.{Kind}
+use Rattle.dfr_live.specs.Devices.{PutsOf, stops, GotFront}
+use Rattle.dfr_program.specs.Live.{GivenParts, Ran, TellsCame, TellsOver, TellsLive, PrintsLive, OnlyFront}
 use Rattle.dfr_program.specs.Reports.{run_word}
 
 pub tells_run : (A : Type 0) (g : GivenParts) (f : Option Fault) (s : ScriptParts) (k : Kept) (done : Bool) (text : List ℕ) → f ≡ None → IsMadeOf s k → TellsOver A g (opening_of k) done text → TellsLive A g f s done text
 tells_run A g f s k done text q made over =
     subst (λ (v : Option Fault). TellsLive A g v s done text) (sym q)
     (record { opening = opening_of k; opened = record { layout = made.layout; limits = made.limits; rules = made.rules }; over = over })
+
+pub only_front : {K : Type 0} (Puts : PutsOf K) (kind : Kind) (s : ScriptParts) (k : Kept) (old new : K) → IsMadeOf s k
+    → GotFront Puts (λ s _ what t. stops s what t) (opening_of k) kind old new → OnlyFront Puts kind s old new
+only_front Puts kind s k old new made front = inr (opening_of k, record { layout = made.layout; limits = made.limits; rules = made.rules }, front)
 
 pub if_ok_map : {U E : Type 0} (P Q : U → Type 0) (r : Result U E) → IfOk r P → ((u : U) → P u → Q u) → IfOk r Q
 if_ok_map P Q (Ok u) p f = f u p

@@ -1,5 +1,5 @@
 -- What a live run writes: the line of a fault, or the report of the run.
-use Rattle.std.specs.Prelude.{◌≡◌, ℕ, ◌≤◌, List, [], length, map, filter, ⊤, Option, Some, None, Result, Ok, Err, Bool, true, false}
+use Rattle.std.specs.Prelude.{◌≡◌, ◌⊎◌, ℕ, ◌≤◌, List, [], length, map, filter, ⊤, Option, Some, None, Result, Ok, Err, Bool, true, false}
 use Rattle.std.specs.Io.KnownBytes.{Appends}
 use Rattle.dfr_recorder.specs.History.{Opening}
 use Rattle.dfr_recorder.specs.Steps.{StepParts}
@@ -54,6 +54,12 @@ given_by Puts kind old new s = record {
       GotAll Puts (λ s _ what t. stops s what t) o kind old made (Some (records_taken o (followed_by [] steps))) new;
   Fails = λ o why. WhyFailed Puts kind old new (scans_in s.commands) o why × GotFront Puts (λ s _ what t. stops s what t) o kind old new;
 }
+
+-- whatever a run over a script came to: the sink was not used; or it got the files of some records over the opening that the script says,
+-- and then at most those of one that it refused
+abbrev pub OnlyFront : {K : Type 0} → PutsOf K → Kind → ScriptParts → K → K → Type 0
+OnlyFront Puts kind s old new =
+    (new ≡ old) ⊎ ((o : Opening) × IsOpenedBy s o × GotFront Puts (λ s _ what t. stops s what t) o kind old new)
 
 -- a report on a run in threads over this opening, of all that it was given: the source took in the steps of its scans, and none is left;
 -- the calls of seat 0 are its orders, each at its place; all calls and scan steps are one list, and what is known of the sink holds with

@@ -8,8 +8,9 @@ ghost use Rattle.dfr_script.specs.Parts.{ScriptParts};
 ghost use Rattle.dfr_script.specs.Scripts.{script_value};
 ghost use Rattle.dfr_live.specs.Seen.{InnerParts, SourceParts, TokenParts, opening_of};
 ghost use Rattle.dfr_live.specs.Ends.{Ends};
+ghost use Rattle.dfr_live.specs.Devices.{stops, GotFront};
 ghost use Rattle.dfr_program.specs.FaultTexts.{fault_text};
-ghost use Rattle.dfr_program.specs.Live.{given_by, TellsCame, TellsFault, TellsOver, TellsLive, PrintsLive, CutsLive};
+ghost use Rattle.dfr_program.specs.Live.{given_by, TellsCame, TellsFault, TellsOver, TellsLive, PrintsLive, CutsLive, OnlyFront};
 ghost use Rattle.dfr_program.specs.Plans.{given, live_fault, placed, scans_in, orders_in};
 ghost use Rattle.dfr_program.specs.Recording.{IsOneThread};
 ghost use Rattle.dfr_program.specs.Reports.{report_text};
@@ -108,6 +109,8 @@ fn run_plan<A: Allocator + Copy + Send + Sync, K: Sink + Send, R: Threads + Wait
         → map placed plan.orders.items ≡ orders_in 0 s.commands
         → TellsOver A (given_by K.puts kind sink.old sink.new s) (opening_of plan.recorder)
         told.done told.text.items) }
+    ensures front { GotFront K.puts (λ s _ r t. stops s r t) (opening_of plan.recorder) kind
+        sink.old sink.new }
     ensures fault { IfErr result (λ fault. fault ≡ RunFault.Memory) }
 {
     let Plan {
@@ -144,6 +147,7 @@ fn run_script<A: Allocator + Copy + Send + Sync, K: Sink + Send, R: Threads + Wa
         told.done told.text.items) }
     ensures fault { IfErr result (λ fault. fault ≡ RunFault.Memory) }
     ensures unused { is_some (live_fault script.now) ≡ true → sink.new ≡ sink.old }
+    ensures front { OnlyFront K.puts kind (script_value (lines script.now)) sink.old sink.new }
 {
     match plan_of(alloc, script) {
         Ok(plan) => run_plan(rt, alloc, plan, kind, sink),
@@ -167,8 +171,10 @@ fn run_script<A: Allocator + Copy + Send + Sync, K: Sink + Send, R: Threads + Wa
 /// script has an error, nothing runs and the sink is unchanged. `fault feed` and `fault open` are
 /// never printed, `fault sink` only where the sink refused the files of a record, and `fault
 /// counter` only where the script has at least 4,294,967,295 scans and losses. `fault end` says that
-/// the calls made and the log do not agree. After an error of the run the sink got the files of some
-/// records, and then at most those of one that it refused.
+/// the calls made and the log do not agree.
+///
+/// Whatever comes, and also with an error, the sink got the files of some records, and then at most
+/// those of one that it refused.
 ///
 /// - `Memory`: an allocation failed, or a thread could not be started. Nothing was written to `w`.
 /// - `Output`: a write failed. Only part of the text was written.
@@ -189,6 +195,7 @@ pub fn live_of<
         (W.contents w.old) (W.contents w.new) }
     ensures memory { result ≡ Err RunFault.Memory → w.new ≡ w.old }
     ensures unused { is_some (live_fault script.now) ≡ true → sink.new ≡ sink.old }
+    ensures front { OnlyFront K.puts kind (script_value (lines script.now)) sink.old sink.new }
     ensures fault { IfErr result (λ fault. fault ≢ RunFault.Input) }
 {
     let told = run_script(rt, alloc, script, kind, sink)?;

@@ -125,9 +125,6 @@ skips_to c bytes skipping lines skips same = record {
 pub for_any : {A : Type 0} {c d : Cutter A} {given : List ArrivalParts} (last : Bool) → Cuts false c given d → Cuts last c given d
 for_any last cut = record { first = λ more none xs comes. cut.first more (λ e. absurd (false≢true e)) xs comes }
 
-pub takes_any : {A : Type 0} {c d : Cutter A} {o : Option (Arrival A)} (last : Bool) → TakesLine false c o d → TakesLine last c o d
-takes_any last took = record { cut = for_any last took.cut; shorter = took.shorter; same = took.same; paid = took.paid }
-
 -- a line of so many bytes was used up
 pub takes : {A : Type 0} (last : Bool) (c : Cutter A) (o : Option (Arrival A)) (count came : ℕ) (owed skipping : Bool) (piece : List ℕ → List ℕ) (ps : List ℕ → List (List ℕ))
     → IsReady c → 0 < count → count ≤ length c.buffer

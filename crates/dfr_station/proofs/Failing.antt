@@ -1,18 +1,18 @@
 -- What is known of a run that failed.
-use Rattle.std.proofs.Common.{◌≡◌, ◌⊎◌, Bool, List, Option, Result, Ok, Err, inl, inr, refl, sym, ◌∙◌, ap, subst}
+use Rattle.std.proofs.Common.{◌≡◌, Bool, List, [], Option, Result, Ok, Err, inl, inr, refl, sym, ◌∙◌, ap, subst}
 use Rattle.std.specs.Prelude.{IfOk, IfErr}
+use Rattle.std.proofs.lemmas.List.Elements.{All-nil}
 use Rattle.dfr_channels.specs.Parts.{SetupParts}
 use Rattle.dfr_recorder.specs.History.{Opening}
 use Rattle.dfr_recorder.specs.Parts.{RecordParts}
 use Rattle.comtrade_format.specs.declared.file.Kind.{Kind}
 use Rattle.dfr_live.specs.Causes.{HasCause}
-use Rattle.dfr_live.specs.Devices.{GivesOf, LosesOf, PutsOf, LacksOf, Handed, Got, GotFront, GotNoMore, Stopped}
-use Rattle.dfr_live.specs.declared.ended.EndFault.{EndFault}
+use Rattle.dfr_live.specs.Devices.{GivesOf, LosesOf, PutsOf, LacksOf, Handed, IsTaken, Got, GotFront, GotNoMore, Stopped}
 use Rattle.dfr_live.specs.declared.ended.EndFault.TheVariants as unended
 use Rattle.dfr_live.specs.declared.outcome.OpenFault.{OpenFault}
 use Rattle.dfr_live.specs.declared.report.LiveFault.{LiveFault}
 use Rattle.dfr_live.specs.declared.report.LiveFault.TheVariants as live
-use Rattle.dfr_station.specs.Failing.{NothingKnown, IsToldAs, DevicesFail, IsFaultOf, StoredSome, StationFails}
+use Rattle.dfr_station.specs.Failing.{IsShort, IsToldAs, DevicesFail, IsFaultOf, StoredSome, StationFails}
 use Rattle.dfr_station.specs.Storing.{StoresOf, Exporting, unasked, PutsPair, LacksPair}
 use Rattle.dfr_station.specs.declared.intake.ended.RunFault.{RunFault}
 use Rattle.dfr_station.specs.declared.intake.ended.RunFault.TheVariants as run
@@ -21,36 +21,36 @@ use Rattle.dfr_station.specs.declared.intake.ended.RunFault.TheVariants as run
 
 module _ {A F O K : Type 0} (Gives : GivesOf A F) (Loses : LosesOf F) (Puts : PutsOf K) (Lacks : LacksOf K) (o : Opening) (kind : Kind)
     (refused : Option OpenFault) (old new : F × O × K) where
-  short_fails : (r : RunFault) → NothingKnown r → DevicesFail Puts Lacks o kind refused old new r
+  short_fails : (r : RunFault) → IsShort r → GotFront Puts Lacks o kind old.2 new.2 → DevicesFail Puts Lacks o kind refused old new r
   unfolding DevicesFail
-  short_fails r (inl is) = subst (DevicesFail Puts Lacks o kind refused old new) (sym is) tt
-  short_fails r (inr is) = subst (DevicesFail Puts Lacks o kind refused old new) (sym is) (inl refl)
-
-  got_front : (fault : LiveFault) → (fault ≡ live.Memory → ⊥) → (fault ≡ live.Memory) ⊎ GotFront Puts Lacks o kind old.2 new.2 → GotFront Puts Lacks o kind old.2 new.2
-  got_front fault other (inl is) = absurd (other is)
-  got_front fault other (inr got) = got
+  short_fails r (inl is) front = subst (DevicesFail Puts Lacks o kind refused old new) (sym is) front
+  short_fails r (inr is) front = subst (DevicesFail Puts Lacks o kind refused old new) (sym is) front
 
   devices_fail : (fault : LiveFault) (r : RunFault) → IsToldAs fault r → HasCause Gives Loses Puts Lacks o kind refused old new fault
-      → (fault ≡ live.Memory) ⊎ GotFront Puts Lacks o kind old.2 new.2 → DevicesFail Puts Lacks o kind refused old new r
+      → GotFront Puts Lacks o kind old.2 new.2 → DevicesFail Puts Lacks o kind refused old new r
   unfolding DevicesFail
   devices_fail (live.Open why) r is cause front = subst (DevicesFail Puts Lacks o kind refused old new) (sym is) cause
-  devices_fail (live.End why) r is cause front =
-      subst (DevicesFail Puts Lacks o kind refused old new) (sym is) (inr (got_front (live.End why) (λ e. cc) front))
-  devices_fail live.Counter r is cause front =
-      subst (DevicesFail Puts Lacks o kind refused old new) (sym is) (got_front live.Counter (λ e. cc) front)
-  devices_fail live.Memory r is cause front = short_fails r is
-  devices_fail live.Turns r is cause front = short_fails r is
-  devices_fail (live.Feed code) r is cause front = short_fails r is
-  devices_fail (live.Sink code) r is cause front = short_fails r is
+  devices_fail (live.End why) r is cause front = subst (DevicesFail Puts Lacks o kind refused old new) (sym is) front
+  devices_fail live.Counter r is cause front = subst (DevicesFail Puts Lacks o kind refused old new) (sym is) front
+  devices_fail live.Memory r is cause front = short_fails r is front
+  devices_fail live.Turns r is cause front = short_fails r is front
+  devices_fail (live.Feed code) r is cause front = short_fails r is front
+  devices_fail (live.Sink code) r is cause front = short_fails r is front
 
   pub told_fails : {T : Type 0} (out : Result T RunFault) (report : Result T LiveFault)
       → IfErr out (λ r. (fault : LiveFault) × (report ≡ Err fault) × IsToldAs fault r)
       → IfErr report (HasCause Gives Loses Puts Lacks o kind refused old new)
-      → IfErr report (λ fault. (fault ≡ live.Memory) ⊎ GotFront Puts Lacks o kind old.2 new.2)
+      → GotFront Puts Lacks o kind old.2 new.2
       → IfErr out (DevicesFail Puts Lacks o kind refused old new)
   told_fails (Ok made) report told cause front = tt
   told_fails (Err r) report told cause front =
-      devices_fail told.0 r told.2 (rw told.1 at cause) (rw told.1 at front)
+      devices_fail told.0 r told.2 (rw told.1 at cause) front
+
+-- a run that did not begin leaves the devices as they were
+pub none_begun : {F O K : Type 0} (Puts : PutsOf K) (Lacks : LacksOf K) (o : Opening) (kind : Kind) (refused : Option OpenFault) (old : F × O × K)
+    → DevicesFail Puts Lacks o kind refused old old run.Thread
+unfolding DevicesFail
+none_begun Puts Lacks o kind refused old = ([], old.2, (All-nil (λ (x : Handed). IsTaken o x.0), refl), inl refl)
 
 -- ---- from the devices to the store
 
@@ -94,19 +94,14 @@ module _ {K : Type 0} (Stores : StoresOf K) where
     stored : GotFront (PutsPair Stores) Lacks o kind old.2 new.2 → StoredSome Stores o kind by_clock store store_left
     stored = stored_some o kind by_clock old.2 new.2 store store_left begins ends
 
-    stored_but : (why : EndFault) → (why ≡ unended.Memory) ⊎ GotFront (PutsPair Stores) Lacks o kind old.2 new.2
-        → (why ≡ unended.Memory) ⊎ StoredSome Stores o kind by_clock store store_left
-    stored_but why (inl is) = inl is
-    stored_but why (inr got) = inr (stored got)
-
     pub run_fails : (r : RunFault) → DevicesFail (PutsPair Stores) Lacks o kind refused old new r
         → StationFails Stores o kind by_clock refused (input, store) (input_left, store_left) r
     unfolding DevicesFail
     run_fails run.Memory fails = unchanged fails
-    run_fails run.Thread fails = tt
+    run_fails run.Thread fails = stored fails
     run_fails (run.Open why) fails = (unchanged fails.0, fails.1)
     run_fails run.Counter fails = stored fails
-    run_fails (run.End why) fails = stored_but why fails
+    run_fails (run.End why) fails = stored fails
 
 -- ---- from the report to what a station gives back
 

@@ -1,6 +1,5 @@
 -- The orders of the input, as they wait and are handed out.
 use Rattle.std.proofs.Common.{◌≡◌, ℕ, ◌≤◌, arith, List, [], ◌∷◌, ◌++◌, Option, Some, None, inl, inr, refl, sym, ◌∙◌, ap, append_assoc}
-use Rattle.std.proofs.lemmas.List.{append-nil}
 use Rattle.std.specs.Prelude.{min, option_to_list, IfSome, MatchOption}
 use Rattle.dfr_live.specs.Devices.{Came, Turn, Waits, Makes, Desked, TookTurn, MadeAll, new_desk}
 use Rattle.dfr_live.specs.Parts.{EntryParts}
@@ -11,16 +10,6 @@ use Rattle.dfr_station.specs.Desks.{DeskParts, HandsOut, IsEarly, IsRoom, HasRoo
 use Rattle.dfr_station.specs.declared.desk.Placed.{Placed}
 
 module _ {A : Type 0} where
-  pub hands_none : (s t : DeskParts A) → t.lane ≡ s.lane → t.has_operator ≡ s.has_operator → t.shelf ≡ s.shelf → t.taken ≡ s.taken → t.waits ≡ s.waits → HandsOut s [] t
-  hands_none s t lane same shelf taken waits = record {
-    lane = lane;
-    same = same;
-    shelf = shelf;
-    more = [];
-    taken = taken ∙ sym (append-nil s.taken);
-    rest = append-nil (option_to_list s.waits) ∙ sym (ap (λ (o : Option (Placed A)). option_to_list o) waits);
-  }
-
   -- one was taken off the queue, and waits
   pub takes_off : (s t : DeskParts A) (x : Placed A) → t.lane ≡ s.lane → t.has_operator ≡ s.has_operator → t.shelf ≡ s.shelf → t.taken ≡ s.taken ++ x ∷ [] → s.waits ≡ None → t.waits ≡ Some x → HandsOut s [] t
   takes_off s t x lane same shelf taken none waits = record {

@@ -76,8 +76,7 @@ pub struct Run<I, K, A: Allocator = Global> {
 /// `headers` each pair goes to the store with a header.
 /// Whatever the end, the input and the store come back. After `Memory` and `Open` both are
 /// unchanged. `Open` comes only from a recorder that has accepted a scan, or for want of memory.
-/// After `Counter`, and after `End` with another cause than memory, the store got the pairs of some
-/// records and nothing else. Of the other errors nothing is stated.
+/// After every other error the store got the pairs of some records and nothing else.
 pub fn run_station<
     A: Allocator + Copy + Send + Sync,
     I: Read + Send,

@@ -1,15 +1,9 @@
 -- The samples of a channel, and their span.
 use Rattle.std.specs.Prelude.{◌≡◌, ℕ, ℤ, ◌≤ℤ◌, List, [], Option, Some, None, slice_get}
 use Rattle.std.specs.List.{All, Contains, filter_map}
-use Rattle.dfr_channels.specs.declared.scan.Reading.{Reading}
-use Rattle.dfr_channels.specs.declared.scan.Reading.TheVariants.{Value, Missing}
+use Rattle.dfr_channels.specs.Scans.{sample_in}
 use Rattle.comtrade_format.specs.Parts.{RowParts}
 use Rattle.examples.specs.declared.peaks.span.Span.{Span}
-
-abbrev pub sample_in : Option Reading → Option ℤ
-sample_in (Some (Value x)) = Some x
-sample_in (Some Missing) = None
-sample_in None = None
 
 -- the sample of a channel in a row, where its reading isn't missing
 abbrev pub sample : ℕ → RowParts → Option ℤ

@@ -2,7 +2,7 @@ use Rattle.std.proofs.Common.{ap, Ok}
 use Rattle.dfr_live.specs.declared.report.LiveFault.{LiveFault}
 use Rattle.dfr_live.specs.Causes.{AcquisitionFails}
 use Rattle.dfr_live.proofs.Placing.{handed_up}
-use Rattle.dfr_live.proofs.TakingIn.{gave_first, gave_more, gave_last, gave_fails, but_last}
+use Rattle.dfr_live.proofs.TakingIn.{gave_more, gave_fails}
 use Rattle.dfr_live.proofs.acquire.acquire.Goals as goal
 
 pub loop-preserved : goal.loop-preserved

@@ -1,10 +1,8 @@
-use Rattle.std.proofs.Common.{◌≡◌, ◌⊎◌, ◌∙◌, ◌++◌, ◌∷◌, [], ℕ, List, length, ap, sym, subst, rules, inr}
+use Rattle.std.proofs.Common.{◌≡◌, ◌∙◌, ◌++◌, ◌∷◌, [], ℕ, List, length, ap, sym, subst, rules}
 use Rattle.dfr_recorder.specs.History.{Opening}
-use Rattle.dfr_live.specs.declared.report.LiveFault.{LiveFault}
-use Rattle.dfr_live.specs.declared.report.LiveFault.TheVariants as fault
 use Rattle.dfr_live.specs.Devices.{GotAll, GotFront}
 use Rattle.dfr_live.specs.Causes.{RunFails}
-use Rattle.dfr_live.proofs.Placing.{Fails, by-export, by-end, front_of_all, got_these, handed_up, or_front}
+use Rattle.dfr_live.proofs.Placing.{Fails, by-export, by-end, front_of_all, got_these, handed_up}
 use Rattle.dfr_live.specs.Seen.{TokenParts, new_tokens}
 use Rattle.dfr_live.proofs.Recording.{recorded_in, two_gone}
 use Rattle.dfr_live.proofs.Seats.{two_seats}
@@ -51,10 +49,8 @@ returns-in_err-run_threads-clause-cause g c =
 
 pub returns-in_err-run_threads-clause-front : goal.returns-in_err-run_threads-clause-front
 returns-in_err-run_threads-clause-front g c =
-    let Front : Opening → LiveFault → Type 0 = λ o f. (f ≡ fault.Memory) ⊎ GotFront g.K.Outlet.puts g.K.Outlet.lacks o c.args.kind c.args.outlet.now c.run_threads.new.outlet in
-    let came = c.in_err-run_threads in
-    handed_up c.from_residual.result came.field-0.0 (Front g.N.Session.opening) c.from_residual.ensures.1
-    (subst (λ (o : Opening). Front o came.field-0.0) (c.share_with-shared.ensures.shared ∙ c.requires.named.0) came.ensures.front)
+    subst (λ (o : Opening). GotFront g.K.Outlet.puts g.K.Outlet.lacks o c.args.kind c.args.outlet.now c.run_threads.new.outlet)
+    (c.share_with-shared.ensures.shared ∙ c.requires.named.0) c.in_err-run_threads.ensures.front
 
 pub returns-in_err-hand_rest-clause-cause : goal.returns-in_err-hand_rest-clause-cause
 returns-in_err-hand_rest-clause-cause g c =
@@ -77,11 +73,7 @@ returns-in_err-hand_rest-clause-front g c =
     let got =
     subst (λ (o : Opening). GotAll g.K.Outlet.puts g.K.Outlet.lacks o c.args.kind c.args.outlet.now new.second.token.made new.second.gone new.outlet)
     (c.share_with-shared.ensures.shared ∙ c.requires.named.0) p.handed_on.2 in
-    let came = c.in_err-hand_rest in
-    handed_up c.from_residual-in_err-hand_rest.result came.field-0.0
-    (λ (why : LiveFault). (why ≡ fault.Memory) ⊎ GotFront g.K.Outlet.puts g.K.Outlet.lacks g.N.Session.opening c.args.kind c.args.outlet.now c.hand_rest.new.outlet)
-    c.from_residual-in_err-hand_rest.ensures.1
-    (inr (came.ensures.fault c.args.outlet.now got).1)
+    (c.in_err-hand_rest.ensures.fault c.args.outlet.now got).1
 
 pub returns-clause-cause : goal.returns-clause-cause
 returns-clause-cause g c =
@@ -96,8 +88,7 @@ returns-clause-front g c =
     let got =
     subst (λ (o : Opening). GotAll g.K.Outlet.puts g.K.Outlet.lacks o c.args.kind c.args.outlet.now new.second.token.made new.second.gone new.outlet)
     (c.share_with-shared.ensures.shared ∙ c.requires.named.0) p.handed_on.2 in
-    or_front c.report.result (λ (f : LiveFault). f ≡ fault.Memory)
-    (front_of_all g.K.Outlet.puts g.K.Outlet.lacks g.N.Session.opening c.args.kind c.args.outlet.now c.hand_rest.new.outlet c.hand_rest.new.token.made c.hand_rest.new.gone (q.on.2 c.args.outlet.now got))
+    front_of_all g.K.Outlet.puts g.K.Outlet.lacks g.N.Session.opening c.args.kind c.args.outlet.now c.hand_rest.new.outlet c.hand_rest.new.token.made c.hand_rest.new.gone (q.on.2 c.args.outlet.now got)
 
 pub returns-then-not-is_all_gone-clause-front : goal.returns-then-not-is_all_gone-clause-front
 returns-then-not-is_all_gone-clause-front g c =
@@ -107,4 +98,4 @@ returns-then-not-is_all_gone-clause-front g c =
     let got =
     subst (λ (o : Opening). GotAll g.K.Outlet.puts g.K.Outlet.lacks o c.args.kind c.args.outlet.now new.second.token.made new.second.gone new.outlet)
     (c.share_with-shared.ensures.shared ∙ c.requires.named.0) p.handed_on.2 in
-    inr (front_of_all g.K.Outlet.puts g.K.Outlet.lacks g.N.Session.opening c.args.kind c.args.outlet.now c.hand_rest.new.outlet c.hand_rest.new.token.made c.hand_rest.new.gone (q.on.2 c.args.outlet.now got))
+    front_of_all g.K.Outlet.puts g.K.Outlet.lacks g.N.Session.opening c.args.kind c.args.outlet.now c.hand_rest.new.outlet c.hand_rest.new.token.made c.hand_rest.new.gone (q.on.2 c.args.outlet.now got)

@@ -1,5 +1,5 @@
 use Rattle.std.proofs.Common.{◌≡◌, ◌⊎◌, inl, inr, Option, Some, None, Result, Ok, Err, refl, sym, subst}
-use Rattle.std.specs.Prelude.{IfSome, IfErr}
+use Rattle.std.specs.Prelude.{IfSome}
 use Rattle.dfr_live.specs.declared.outcome.OpenFault.{OpenFault}
 use Rattle.dfr_live.specs.declared.outcome.OpenFault.TheVariants as refused
 use Rattle.dfr_live.specs.declared.report.LiveFault.TheVariants as fault
@@ -32,7 +32,7 @@ returns-clause-cause g c = (refl, which c.in-Err.fault _ c.in-Err.ensures.fault)
 
 pub returns-in-Ok-clause-front : goal.returns-in-Ok-clause-front
 returns-in-Ok-clause-front g c =
-    subst (λ (o : Opening). IfErr c.record_named.result (λ f. (f ≡ fault.Memory) ⊎ GotFront g.K.Outlet.puts g.K.Outlet.lacks o c.args.kind c.args.outlet.now c.record_named.new.outlet))
+    subst (λ (o : Opening). GotFront g.K.Outlet.puts g.K.Outlet.lacks o c.args.kind c.args.outlet.now c.record_named.new.outlet)
     c.in-Ok.ensures.opened.0 c.record_named.ensures.front
 
 pub returns-in-Ok-clause-cause : goal.returns-in-Ok-clause-cause

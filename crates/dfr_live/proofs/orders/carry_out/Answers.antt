@@ -2,7 +2,7 @@ use Rattle.std.proofs.Common.{◌≡◌, ap, Ok, ◌∙◌, sym, subst, Bool}
 use Rattle.std.specs.Prelude.{is_some}
 use Rattle.dfr_live.specs.Seen.{TokenParts}
 use Rattle.dfr_live.specs.Devices.{MadeAll}
-use Rattle.dfr_live.proofs.Placing.{MadeSoFar, made_first, made_more, made_waited, made_end, seat_kept, seat_made, if_known}
+use Rattle.dfr_live.proofs.Placing.{MadeSoFar, made_more, made_waited, made_end, seat_kept, seat_made, if_known}
 use Rattle.dfr_live.proofs.orders.carry_out.Goals as goal
 
 pub loop-preserved-in-Made : goal.loop-preserved-in-Made

@@ -1,4 +1,4 @@
-use Rattle.std.proofs.Common.{◌≡◌, Result, Ok, Err, inr, refl, sym, ◌∙◌, ap, subst}
+use Rattle.std.proofs.Common.{◌≡◌, Result, Ok, Err, refl, sym, ◌∙◌, ap, subst}
 use Rattle.std.specs.Prelude.{IfOk, IfErr, MatchResult, is_some}
 use Rattle.dfr_live.specs.Devices.{taken_in}
 use Rattle.dfr_live.specs.Seen.{opening_of}
@@ -93,6 +93,6 @@ returns-clause-failed g c =
     let left : run.new.intake.incoming.input ≡ c.into_input.result = rw (c.into_input.ensures, c.all_made-report.ensures.same.0) refl in
     let fails = run_fails g.K.Store.stores o c.args.how.kind (is_some c.args.times) _ _ _ c.args.input c.into_input.result c.args.store c.into_store.result begins ends
     (λ is. sym left ∙ same_input _ _ c.args.input begun is) in
-    out_fails _ _ (λ report recorded. inr (stored_all g.K.Store.stores o c.args.how.kind (is_some c.args.times) c.new-outlet.result run.new.outlet recorded.handed_on.0 c.args.store c.into_store.result begins ends recorded.handed_on.1))
+    out_fails _ _ (λ report recorded. stored_all g.K.Store.stores o c.args.how.kind (is_some c.args.times) c.new-outlet.result run.new.outlet recorded.handed_on.0 c.args.store c.into_store.result begins ends recorded.handed_on.1)
     run.result c.all_made-report.result c.recorded_of.result c.recorded_of.ensures.failed c.all_made-report.ensures.failed
     (if_err run.result _ _ fails (when_err run.result _ _ run.ensures)) (when_ok run.result _ _ run.ensures)
