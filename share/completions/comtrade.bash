@@ -18,9 +18,10 @@ _comtrade() {
         places=(records records)
         ;;
     check)
-        flags='--json -o --output -h --help'
+        flags='-r --recursive --json -o --output -h --help'
         valued='--output'
-        places=(records records)
+        places=(records)
+        more=records
         ;;
     csv)
         flags='--from --to --channels --changed --primary --secondary --strict --encoding
@@ -29,16 +30,18 @@ _comtrade() {
         places=(records records)
         ;;
     plot)
-        flags='--from --to --channels --changed --primary --secondary --strict --encoding --whole
-               --all --width --height --print -o --output -h --help'
+        flags='-r --recursive --from --to --channels --changed --primary --secondary --strict
+               --encoding --whole --all --width --height --print -o --output -h --help'
         valued='--from --to --channels --encoding --width --height --output'
-        places=(records records)
+        places=(records)
+        more=records
         ;;
     page)
-        flags='--from --to --channels --changed --primary --secondary --strict --encoding -o
-               --output -h --help'
+        flags='-r --recursive --from --to --channels --changed --primary --secondary --strict
+               --encoding -o --output -h --help'
         valued='--from --to --channels --encoding --output'
-        places=(records records)
+        places=(records)
+        more=records
         ;;
     list)
         flags='-r --recursive --from --to --station --json --encoding -o --output --min-current -h
@@ -60,17 +63,24 @@ _comtrade() {
         places=(records)
         more=records
         ;;
+    report)
+        flags='-r --recursive --encoding -o --output -h --help'
+        valued='--encoding --output'
+        places=(records)
+        more=records
+        ;;
     compare)
-        flags='--by --from --to --channels --changed --primary --secondary --strict --encoding
-               --whole --all --width --height --print -o --output -h --help'
-        valued='--by --from --to --channels --encoding --width --height --output'
+        flags='--by --shift --map --from --to --channels --changed --primary --secondary --strict
+               --encoding --whole --all --width --height --print -o --output -h --help'
+        valued='--by --shift --map --from --to --channels --encoding --width --height --output'
         places=(records records)
         ;;
     measure)
-        flags='--from --to --channels --changed --primary --secondary --strict --encoding --at
-               --reference --frequency --phases --json -o --output -h --help'
+        flags='-r --recursive --from --to --channels --changed --primary --secondary --strict
+               --encoding --at --reference --frequency --phases --json -o --output -h --help'
         valued='--from --to --channels --encoding --at --reference --frequency --phases --output'
-        places=(records records)
+        places=(records)
+        more=records
         ;;
     detect)
         flags='--json -o --output -h --help'
@@ -111,10 +121,10 @@ _comtrade() {
     word=''
     if [ -n "$option" ]; then
         case $option in
-        --encoding) word='utf-8 latin1 windows-1251 windows-1252 cp437 cp850 cp866 gbk shift_jis' ;;
+        --encoding) word='utf-8 utf-16 latin1 windows-1251 windows-1252 cp437 cp850 cp866 gbk shift_jis' ;;
         --output) return ;;
         --type) word='trigger change gap' ;;
-        --by) word='instant trigger' ;;
+        --by) word='instant trigger fault' ;;
         --kind) word='ascii binary' ;;
         --dates) word='mdy dmy' ;;
         --refuse) word='revision-1991 revision-2013 revision-absent revision-other sides-absent side-empty
@@ -136,7 +146,7 @@ _comtrade() {
         word=$flags
     else
         case ${places[place]:-$more} in
-        commands) word='show check csv plot page list events fault compare measure detect convert import extract help' ;;
+        commands) word='show check csv plot page list events fault report compare measure detect convert import extract help' ;;
         folders)
             compopt -o filenames 2> /dev/null
             mapfile -t COMPREPLY < <(compgen -d -- "$cur")

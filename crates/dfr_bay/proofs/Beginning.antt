@@ -4,7 +4,7 @@ use Rattle.std.specs.Prelude.{replicate, nat_lt}
 use Rattle.std.specs.List.{All}
 use Rattle.std.proofs.lemmas.List.{length-replicate, replicate_more}
 use Rattle.std.proofs.lemmas.List.Elements.{All-same, All-replicate}
-use Rattle.std.proofs.lemmas.Bool.{leb-true}
+use Rattle.std.proofs.lemmas.Bool.{and_parts, leb-true}
 use borrow.Author.Tests.{ltb-true}
 use Rattle.circular_buffer.specs.Buffer.{Buffer, buffer}
 use Rattle.dfr_bay.specs.declared.settings.Settings.{Settings}
@@ -17,11 +17,6 @@ passed : {F : Type 0} (test : Bool) (rest : Option F) (fault : F) → cond test 
 passed true rest fault h = (refl, h)
 passed false rest fault h = absurd cc
 
-both : (a b : Bool) → a && b ≡ true → (a ≡ true) × (b ≡ true)
-both true true h = (refl, refl)
-both true false h = absurd cc
-both false b h = absurd cc
-
 settings_fit : (s : Settings) → settings_fault s ≡ None → Fits s
 settings_fit s h =
     let rate = passed (leb 2 s.rate && leb s.rate 65_536) _ Rate h in
@@ -30,12 +25,12 @@ settings_fit s h =
     let reach = passed (leb s.limit s.reach) _ Reach limit.1 in
     let confirm = passed (leb 1 s.confirm) _ Confirm reach.1 in
     record {
-      some = leb-true 2 s.rate (both _ _ rate.0).0;
-      few = leb-true s.rate 65_536 (both _ _ rate.0).1;
-      repeated = leb-true 1 s.late (both _ _ late.0).0;
-      timely = ltb-true s.late s.rate (both _ _ late.0).1;
-      waits = leb-true 1 s.limit (both _ _ limit.0).0;
-      short = leb-true s.limit 65_536 (both _ _ limit.0).1;
+      some = leb-true 2 s.rate (and_parts _ _ rate.0).0;
+      few = leb-true s.rate 65_536 (and_parts _ _ rate.0).1;
+      repeated = leb-true 1 s.late (and_parts _ _ late.0).0;
+      timely = ltb-true s.late s.rate (and_parts _ _ late.0).1;
+      waits = leb-true 1 s.limit (and_parts _ _ limit.0).0;
+      short = leb-true s.limit 65_536 (and_parts _ _ limit.0).1;
       reaches = leb-true s.limit s.reach reach.0;
       confirmed = leb-true 1 s.confirm confirm.0;
     }

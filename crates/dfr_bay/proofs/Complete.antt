@@ -1,5 +1,6 @@
 -- The scans that are given are just those that are complete.
 use Rattle.std.proofs.Common.{◌≡◌, ◌∙◌, sym, ap, refl, ℕ, zero, suc, ◌+◌, ◌-◌, ◌<◌, ◌≤◌, max, Bool, true, false, cond, ◌&&◌, ◌||◌, List, [], ◌∷◌, ◌++◌, length, set, inl, inr, ◌⊎◌, Option, None, Some, arith}
+use Rattle.std.proofs.lemmas.Bool.{and_parts}
 use Rattle.std.specs.Prelude.{nat_lt, replicate}
 use Rattle.std.specs.List.{list_all, list_any}
 use Rattle.std.proofs.lemmas.List.{length-append, length-replicate}
@@ -16,10 +17,6 @@ not_below a b h = grind (arith, nat_tests)
 
 below : (a b : ℕ) → a < b → nat_lt a b ≡ true
 below a b h = grind (arith, nat_tests)
-
-and_true : (a b : Bool) → a && b ≡ true → (a ≡ true) × (b ≡ true)
-and_true true b e = (refl, e)
-and_true false b e = absurd cc
 
 or_false : (a b : Bool) → a || b ≡ false → (a ≡ false) × (b ≡ false)
 or_false true b e = absurd cc
@@ -112,11 +109,11 @@ next_one n m (suc stream) x (line ∷ lines) le e =
 same_all : {X : Type 0} (n k stream : ℕ) (x : Option X) (lines : List (List (Option X))) → k < n → all_beyond k lines ≡ true → all_beyond k (set lines stream (grown n (line_at lines stream) x)) ≡ true
 same_all n k stream x [] lt e = refl
 same_all n k zero x (line ∷ lines) lt e =
-    let parts = and_true (nat_lt k (length line)) (all_beyond k lines) e in
+    let parts = and_parts (nat_lt k (length line)) (all_beyond k lines) e in
     let long = grown_length n line x in
     both_true _ _ (below k (length (grown n line x)) (omega (arith, long, lt))) parts.1
 same_all n k (suc stream) x (line ∷ lines) lt e =
-    let parts = and_true (nat_lt k (length line)) (all_beyond k lines) e in
+    let parts = and_parts (nat_lt k (length line)) (all_beyond k lines) e in
     both_true _ _ parts.0 (same_all n k stream x lines lt parts.1)
 
 same_one : {X : Type 0} (n m stream : ℕ) (x : Option X) (lines : List (List (Option X))) → one_beyond m lines ≡ true → one_beyond m (set lines stream (grown n (line_at lines stream) x)) ≡ true

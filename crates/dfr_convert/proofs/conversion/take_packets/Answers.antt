@@ -1,0 +1,22 @@
+use Rattle.std.proofs.Common.{Err}
+use Rattle.dfr_convert.specs.Conversions.{kept}
+use Rattle.dfr_convert.proofs.Taken.{takes_none, takes_on, up_to_on}
+use Rattle.dfr_convert.proofs.conversion.take_packets.Goals as goal
+
+pub loop-at-init : goal.loop-at-init
+loop-at-init g c = takes_none _ _
+
+pub loop-at-preserved : goal.loop-at-preserved
+loop-at-preserved g c =
+    let new = c.take_packet.new in
+    takes_on (kept c.args.pieces.now c.args.recorder.now) (kept c.loop-at.pieces c.loop-at.recorder) (kept new.pieces new.recorder)
+    c.args.feed.now c.loop-at.feed new.feed c.loop-at.invariant c.in-Ok.ensures.takes
+
+pub returns-in-Err-clause-takes : goal.returns-in-Err-clause-takes
+returns-in-Err-clause-takes g c =
+    let new = c.take_packet.new in
+    up_to_on (Err c.in-Err.stop) (kept c.args.pieces.now c.args.recorder.now) (kept c.loop-at.pieces c.loop-at.recorder) (kept new.pieces new.recorder)
+    c.args.feed.now c.loop-at.feed new.feed c.loop-at.invariant c.in-Err.ensures.takes
+
+pub returns-in-Err-clause-short : goal.returns-in-Err-clause-short
+returns-in-Err-clause-short g c = c.in-Err.ensures.short

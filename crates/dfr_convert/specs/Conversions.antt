@@ -1,0 +1,95 @@
+-- What the bytes of a capture that came so far come to.
+use Rattle.std.specs.Prelude.{◌≡◌, ℕ, ◌+◌, ◌*◌, List, [], ◌∷◌, ◌++◌, map, length, slice_range, Option, Some, None, Result, Ok, Err}
+use Rattle.dfr_bus.specs.declared.capture.Capture.{Capture}
+use Rattle.dfr_bus.specs.declared.capture.Packet as packet
+use Rattle.dfr_bus.specs.Captures.{packet_at}
+use Rattle.dfr_bay.specs.Waiting.{Grows}
+use Rattle.dfr_pcap.specs.declared.pieces.Step.TheVariants as steps
+use Rattle.dfr_pcap.specs.Pieces.{PiecesParts, step, added, begun, nanosecond}
+use Rattle.dfr_pcap.specs.Wholes.{IsOf}
+use Rattle.dfr_capture.specs.Plans.{PlanParts}
+use Rattle.dfr_capture.specs.Recordings as recordings
+use Rattle.dfr_capture.specs.Recordings.{Came, FeedParts, IsKept, lines, events, missing}
+use Rattle.dfr_convert.specs.declared.conversion.Stop.{Stop}
+use Rattle.dfr_convert.specs.declared.conversion.Stop.TheVariants.{Memory, Damaged, Time, Long}
+
+pub record Kept : Type 0 where
+  pub pieces : PiecesParts
+  pub recorder : recordings.Kept
+
+abbrev pub kept : PiecesParts → recordings.Kept → Kept
+kept p r = record { pieces = p; recorder = r }
+
+-- These packets, the newest first, lie one after the other behind the head of the capture, and the newest ends at `at`.
+abbrev pub ArePast : Capture → (came : List ℕ) (at : ℕ) → List packet.Packet → Type 0
+ArePast c came at [] = at ≡ 24
+ArePast c came at (p ∷ past) = (from : ℕ) × (packet_at c came from (length came) ≡ Ok p) × (p.content.to ≡ at) × ArePast c came from past
+
+-- none before the head was passed
+abbrev pub Past : Option Capture → (came : List ℕ) (at : ℕ) → List packet.Packet → Type 0
+Past None came at past = past ≡ []
+Past (Some c) came at past = ArePast c came at past
+
+-- the frame of a packet: its bytes, and the nanosecond at which it came
+abbrev pub frame_of : (came : List ℕ) → packet.Packet → Came
+frame_of came p = record { bytes = slice_range came p.content.from p.content.to; time = p.seconds * 1_000_000_000 + p.nanoseconds }
+
+abbrev pub frames_of : (came : List ℕ) → List packet.Packet → List Came
+frames_of came past = map (frame_of came) past
+
+-- this is kept where all these bytes came, and these are the packets of them that were taken in
+pub record IsSoFar (came : List ℕ) (past : List packet.Packet) (k : Kept) : Type 0 where
+  pub pieces : IsOf came k.pieces
+  pub packets : Past k.pieces.capture came k.pieces.passed past
+  pub frames : IsKept (frames_of came past) k.recorder
+
+-- a feed grew by just what some frames give more than others
+pub record HasGrown (p : PlanParts) (was now : List Came) (before after : FeedParts) : Type 0 where
+  pub lines : Grows before.lines after.lines (lines p was) (lines p now)
+  pub events : Grows before.events after.events (events p was) (events p now)
+  pub missing : Grows before.missing after.missing (missing p was) (missing p now)
+
+-- more packets of the same bytes
+pub record More (came : List ℕ) (past : List packet.Packet) (p : PlanParts) (before : FeedParts) (new : Kept) (after : FeedParts) : Type 0 where
+  pub more : List packet.Packet
+  pub kept : IsSoFar came (more ++ past) new
+  pub grown : HasGrown p (frames_of came past) (frames_of came (more ++ past)) before after
+  pub plan : new.recorder.plan ≡ p
+
+abbrev pub Takes : (old : Kept) (before : FeedParts) (new : Kept) (after : FeedParts) → Type 0
+Takes old before new after = (came : List ℕ) (past : List packet.Packet) → IsSoFar came past old → More came past old.recorder.plan before new after
+
+-- If memory ran out nothing is promised.
+abbrev pub TakesUpTo : Result (Unit {0}) Stop → (old : Kept) (before : FeedParts) (new : Kept) (after : FeedParts) → Type 0
+TakesUpTo (Err Memory) old before new after = Unit {0}
+TakesUpTo r old before new after = Takes old before new after
+
+-- what comes next: nothing that is whole, or what the reading stops at
+abbrev pub StopsAt : Result (Unit {0}) Stop → PiecesParts → Type 0
+StopsAt (Ok _) p = step p ≡ steps.Wait
+StopsAt (Err (Damaged at w)) p = step p ≡ steps.Fault at w
+StopsAt (Err Time) p = (q : packet.Packet) × (step p ≡ steps.Packet q) × (nanosecond q ≡ None)
+StopsAt (Err s) p = Unit {0}
+
+abbrev pub StopsAtError : Result (Unit {0}) Stop → PiecesParts → Type 0
+StopsAtError (Ok _) p = Unit {0}
+StopsAtError (Err s) p = StopsAt (Err s) p
+
+-- a piece comes after what is left, and the head is passed once it came; a capture that is too long stays as it is
+abbrev pub Adds : (piece : List ℕ) → Result (Unit {0}) Stop → PiecesParts → PiecesParts → Type 0
+Adds piece (Ok _) old new = new ≡ begun (added piece old)
+Adds piece (Err Memory) old new = Unit {0}
+Adds piece (Err Long) old new = new ≡ old
+Adds piece (Err s) old new = ⊥
+
+-- with a piece more
+abbrev pub TakesPiece : (piece : List ℕ) → (old : Kept) (before : FeedParts) (new : Kept) (after : FeedParts) → Type 0
+TakesPiece piece old before new after =
+    (came : List ℕ) (past : List packet.Packet) → IsSoFar came past old
+    → (more : List packet.Packet) × IsSoFar (came ++ piece) (more ++ past) new
+    × HasGrown old.recorder.plan (frames_of came past) (frames_of (came ++ piece) (more ++ past)) before after × (new.recorder.plan ≡ old.recorder.plan)
+
+abbrev pub TakesIn : (piece : List ℕ) → Result (Unit {0}) Stop → (old : Kept) (before : FeedParts) (new : Kept) (after : FeedParts) → Type 0
+TakesIn piece (Err Memory) old before new after = Unit {0}
+TakesIn piece (Err Long) old before new after = (new ≡ old) × (after ≡ before)
+TakesIn piece r old before new after = TakesPiece piece old before new after

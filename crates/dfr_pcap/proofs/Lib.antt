@@ -1,0 +1,5 @@
+pub mod Heads
+pub mod Begins
+pub mod Moved
+pub mod More
+pub mod Whole

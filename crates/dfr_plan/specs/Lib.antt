@@ -1,0 +1,9 @@
+pub mod Refusing
+pub mod Words
+pub mod Numbers
+pub mod Drafts
+pub mod Streams
+pub mod Values
+pub mod Contacts
+pub mod Settings
+pub mod Plans
