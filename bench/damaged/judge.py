@@ -14,6 +14,9 @@ VIEWS = (["show"], ["show", "--json"], ["events"], ["events", "--json"], ["list"
          ["csv", "--from=0", "--to=5"], ["show", "--encoding=gbk"], ["show", "--changed"])
 # These may refuse a record that csv reads: without times, rate, channels, or rows of this part.
 CHOOSY = ("measure", "csv", "show --changed", "plot")
+# Why import refuses floats that csv shows: a damaged one may be so great or so small beside the
+# others that no number that a configuration file can hold scales them.
+SCALE = "the channel needs a multiplier or offset that a configuration file cannot hold"
 
 
 class Answer:
@@ -110,13 +113,16 @@ class Judge:
                                                          answer.status, answer.said.strip()[-200:])
 
     def imported(self, names, csv):
-        """What import writes is faultless by check, and it tells the same repairs as csv."""
+        """What import writes is faultless by check, and it tells the same repairs as csv. It reads
+        what csv reads, but for floats that a written pair cannot hold."""
         new = os.path.join(self.folder, "new")
         answer = self.run("import", *names, new)
         fault = answer.fault()
         there = [os.path.exists(new + ending) for ending in (".cfg", ".dat")]
         is_told = "`comtrade import` cannot read it" in csv.said
-        is_other = answer.status != csv.status and not is_told
+        is_float = csv.status == 0 and "kind-float32" in keys_of(csv.said)
+        is_unscaled = is_float and answer.status == 1 and SCALE in answer.said
+        is_other = answer.status != csv.status and not is_told and not is_unscaled
         if fault or is_other or there != [answer.status == 0] * 2:
             yield "import: %s, status %d, csv %d, files %s" % (
                 fault, answer.status, csv.status, there)

@@ -1,4 +1,4 @@
-# an error names the file that was typed; a folder is looked at by list; a description (.hdr, .inf) finds its pair
+# an error names the file that was typed; in a folder without records there are none; a description (.hdr, .inf) finds its pair
 exec 2>&1
 folder=$(mktemp -d)
 trap 'rm -r "$folder"' EXIT
@@ -13,6 +13,11 @@ for name in nosuch.cfg nosuch.dat nosuch.cff nosuch.hdr storm/nosuch.cfg nosuch 
     rec1.hdr rec1.INF alone.cfg alone.hdr only.dat; do
     echo "== $name"
     "$comtrade" check "$name"
+    echo "status $?"
+done
+# commands over one record say that a folder is none
+for name in storm storm/ folder.cfg; do
+    "$comtrade" show "$name"
     echo "status $?"
 done
 # a pair is found before a folder of the same name

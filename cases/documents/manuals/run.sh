@@ -8,7 +8,7 @@ command -v python3 > "$folder/said" || { echo "python3 isn't here" >&2; exit 77;
 ../tools/manuals "$folder" || exit 1
 diff -r ../share/completions "$folder/share/completions" && echo "the completions are those of --help"
 here=$(pandoc --version 2> /dev/null | sed -n '1s/^pandoc //p')
-for page in dfr dfrd comtrade; do
+for page in dfr dfrd dfrbus comtrade; do
     committed=../docs/man/$page.1
     if [ "$(sed -n '1s/.*Pandoc //p' $committed)" = "$here" ]; then
         diff $committed "$folder/docs/man/$page.1"

@@ -2,7 +2,7 @@
 # table stand in its source; the files that it names are there. So do the examples of the page on a recorder of one's own.
 cd ..
 # crates without a surface for others: programs and tests
-without=' dfr dfrd comtrade examples library_tests benchmarks bus_fields bay_scans folder_crashes '
+without=' dfr dfrd dfrbus comtrade examples library_tests benchmarks bus_fields bay_scans capture_lines folder_crashes '
 
 # names of the table's first column that no source has
 unknown() {

@@ -1,5 +1,6 @@
 //! `comtrade compare`: two records in one picture.
 
+use crate::align::{Alignment, alignment_of, by_of, match_names};
 use crate::around::rms_of;
 use crate::content::{Reading, file_spelled};
 use crate::load::{Inputs, read_record};
@@ -14,21 +15,12 @@ use bumpalo::Bump;
 use comtrade_diagnostics::Zone;
 use comtrade_format::File;
 use comtrade_io::{Compared, Names, Part, ToolFault};
-use comtrade_plot::{By, CompareOptions, PlotOptions, Timed, compare_over};
+use comtrade_plot::{CompareOptions, PlotOptions, Timed, compare_over};
 use comtrade_values::put;
 use std::alloc::Allocator;
 use std::io;
 use std::io::Write;
 use std::rt::Files;
-
-/// How two records are aligned; None if the text names neither way.
-fn by_of(text: Option<&str>) -> Option<By> {
-    match text.unwrap_or("instant") {
-        "instant" => Some(By::Instant),
-        "trigger" => Some(By::Trigger),
-        _ => None,
-    }
-}
 
 /// What is asked of the second record: the rows and channels of the first decide.
 fn part_beside<'a>(part: Part<'a>) -> Part<'a> {
@@ -156,6 +148,37 @@ fn draw_out<R: Files + Print + Eprint + AllocGlobal, A: Allocator + Copy>(
     Ok(is_drawn && write_new(rt, name, &out))
 }
 
+/// How both are asked to be drawn.
+#[derive(Clone, Copy)]
+struct Look {
+    alignment: Alignment,
+    picture: PlotOptions,
+}
+
+/// How two records are drawn, the second one with the names of the first; None if that is refused,
+/// with the error in `said`, which also tells what was matched.
+fn options_for<A: Allocator + Copy>(
+    lists: A,
+    asked: Compared<'_>,
+    look: Look,
+    one: &Taken<A>,
+    other: &mut Taken<A>,
+    said: &mut Vec<u8, A>,
+) -> Result<Option<CompareOptions>, ToolFault> {
+    if !match_names(lists, one, other, asked.pairs, said)? {
+        return Ok(None);
+    }
+    let Some(by) = by_of(lists, look.alignment, one, other, said)? else {
+        return Ok(None);
+    };
+    Ok(Some(CompareOptions {
+        by,
+        moved: look.alignment.moved,
+        picture: look.picture,
+        is_chosen: asked.part.channels.is_some(),
+    }))
+}
+
 /// Reads the second record and draws both; false if that is refused, which is printed.
 fn draw_beside<R: Files + Input + Print + Eprint + AllocGlobal + Clone + Drop, A: Allocator + Copy>(
     rt: &R,
@@ -164,11 +187,17 @@ fn draw_beside<R: Files + Input + Print + Eprint + AllocGlobal + Clone + Drop, A
     zone: &mut Option<Zone>,
     asked: Compared<'_>,
     one: &Taken<A>,
-    options: CompareOptions,
+    look: Look,
 ) -> Result<bool, ToolFault> {
     let part = part_beside(asked.part);
-    match record_of(rt, lists, is_watched, zone, asked.other, part)? {
-        Some(other) => draw_out(rt, lists, asked.output, one, &other, options),
+    let Some(mut other) = record_of(rt, lists, is_watched, zone, asked.other, part)? else {
+        return Ok(false);
+    };
+    let mut said = Vec::new(lists);
+    let options = options_for(lists, asked, look, one, &mut other, &mut said)?;
+    say(rt, &said);
+    match options {
+        Some(options) => draw_out(rt, lists, asked.output, one, &other, options),
         None => Ok(false),
     }
 }
@@ -179,11 +208,11 @@ fn draw_both<R: Files + Input + Print + Eprint + AllocGlobal + Clone + Drop, A: 
     lists: A,
     is_watched: bool,
     asked: Compared<'_>,
-    options: CompareOptions,
+    look: Look,
 ) -> Result<bool, ToolFault> {
     let mut zone = None;
     match record_of(rt, lists, is_watched, &mut zone, asked.one, asked.part)? {
-        Some(one) => draw_beside(rt, lists, is_watched, &mut zone, asked, &one, options),
+        Some(one) => draw_beside(rt, lists, is_watched, &mut zone, asked, &one, look),
         None => Ok(false),
     }
 }
@@ -193,16 +222,10 @@ fn compare<R: Files + Input + Print + Eprint + AllocGlobal + Clone + Drop>(
     rt: &R,
     is_watched: bool,
     asked: Compared<'_>,
-    by: By,
-    picture: PlotOptions,
+    look: Look,
 ) -> Result<bool, ToolFault> {
-    let options = CompareOptions {
-        by,
-        picture,
-        is_chosen: asked.part.channels.is_some(),
-    };
     let lists = Bump::new(rt.alloc());
-    draw_both(rt, &lists, is_watched, asked, options)
+    draw_both(rt, &lists, is_watched, asked, look)
 }
 
 /// Reads two records and prints the picture of both.
@@ -211,15 +234,18 @@ pub(crate) fn run_compare<R: Files + Input + Print + Eprint + AllocGlobal + Clon
     is_watched: bool,
     asked: Compared<'_>,
 ) -> u8 {
-    let Some(by) = by_of(asked.by) else {
-        let _ = eprintln!(rt; "error: --by expects instant or trigger");
-        return 2;
+    let alignment = match alignment_of(asked) {
+        Ok(alignment) => alignment,
+        Err(usage) => {
+            say(rt, usage.as_bytes());
+            return 2;
+        }
     };
     let Some(picture) = options_of(asked.picture) else {
         say(rt, NO_SIZE.as_bytes());
         return 1;
     };
-    match compare(rt, is_watched, asked, by, picture) {
+    match compare(rt, is_watched, asked, Look { alignment, picture }) {
         Ok(true) => 0,
         Ok(false) => 1,
         Err(fault) => complain(rt, "standard output", fault),

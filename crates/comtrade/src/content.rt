@@ -230,8 +230,8 @@ fn record_in<A: Allocator + Copy>(
 }
 
 /// The error for an unknown encoding.
-pub(crate) const NO_ENCODING: &str = "comtrade: --encoding expects utf-8, latin1, windows-1251, \
-    windows-1252, cp437, cp850, cp866, gbk or shift_jis\n";
+pub(crate) const NO_ENCODING: &str = "comtrade: --encoding expects utf-8, utf-16, latin1, \
+    windows-1251, windows-1252, cp437, cp850, cp866, gbk or shift_jis\n";
 
 /// The encoding with this name, UTF-8 without one; None for an unknown one. A UTF-16 file is known
 /// by its first bytes, and its texts become UTF-8.

@@ -16,7 +16,7 @@ use std::alloc::Global;
 use std::rt::Files;
 
 /// Why a record is not among those that were read; what it is stands on standard error.
-const UNREAD: &[u8] = b"its files cannot be read";
+pub(crate) const UNREAD: &[u8] = b"its files cannot be read";
 
 /// Adds a record whose files were read. Its lists are released in one step.
 fn add_inputs<R: AllocGlobal + Eprint>(

@@ -126,6 +126,20 @@ fn found_single<R: Files + AllocGlobal + Clone + Drop>(
     Ok(None)
 }
 
+/// Whether files of a record have this name, which has no ending of its own.
+pub(crate) fn is_record<R: Files + AllocGlobal + Clone + Drop>(
+    rt: &R,
+    name: &str,
+) -> Result<bool, AllocError> {
+    if stem_of(name).0.is_some() {
+        return Ok(false);
+    }
+    if either_for(rt, name, Ending::Cfg, Ending::CfgGz)?.is_some() {
+        return Ok(true);
+    }
+    Ok(found_single(rt, name)?.is_some())
+}
+
 /// Whether a configuration file is a single file: it begins with a separator line.
 pub(crate) fn is_single_text(bytes: &[u8]) -> bool {
     let text = match bytes.strip_prefix(MARK) {

@@ -95,7 +95,14 @@ pub(crate) fn read_inputs<R: Files + Input + Eprint + AllocGlobal + Clone + Drop
     rt: &R,
     names: Names<'_>,
 ) -> Option<Inputs> {
-    let names = pairing_of(rt, names)?;
+    inputs_of(rt, pairing_of(rt, names)?)
+}
+
+/// Reads the files of a record that have these names; None if that fails, which is printed.
+pub(crate) fn inputs_of<R: Files + Input + Eprint + AllocGlobal>(
+    rt: &R,
+    names: Pairing,
+) -> Option<Inputs> {
     let cfg = read_input(rt, names.cfg.as_str())?;
     let dat = match &names.dat {
         Some(name) => read_input(rt, name.as_str())?,
@@ -105,7 +112,7 @@ pub(crate) fn read_inputs<R: Files + Input + Eprint + AllocGlobal + Clone + Drop
 }
 
 /// The repairs, one line each.
-pub(crate) fn put_notes<A: Allocator>(
+pub(crate) fn put_notes<A: Allocator + Copy>(
     out: &mut Vec<u8, A>,
     notes: &[Note<A>],
 ) -> Result<(), AllocError> {
@@ -155,7 +162,16 @@ pub(crate) fn read_record<R: Files + Input + Eprint + AllocGlobal + Clone + Drop
     names: Names<'_>,
     is_strict: bool,
 ) -> Option<Inputs> {
-    let inputs = read_inputs(rt, names)?;
+    record_of(rt, pairing_of(rt, names)?, is_strict)
+}
+
+/// The same of the files that have these names.
+pub(crate) fn record_of<R: Files + Input + Eprint + AllocGlobal>(
+    rt: &R,
+    names: Pairing,
+    is_strict: bool,
+) -> Option<Inputs> {
+    let inputs = inputs_of(rt, names)?;
     if is_strict && inputs.is_single() {
         complain(rt, name_of(&inputs), ToolFault::Single);
         return None;

@@ -2,12 +2,16 @@
 //! to libraries. Each command prints errors on standard error and returns the exit status.
 #![tactic(auto)]
 
+mod align;
+mod answers;
 mod around;
+mod batch;
 mod compare;
 mod container;
 mod content;
 mod detect;
 mod detect_json;
+mod each;
 mod ending;
 mod event_file;
 mod extract;
@@ -17,35 +21,44 @@ mod folder;
 mod import;
 mod load;
 mod measure;
+mod one;
 mod output;
 mod part;
+mod pictures;
+mod pieces;
+mod plain;
+mod report;
+mod report_text;
+mod stream;
 mod survey;
 mod view;
+mod wanted;
 mod words;
 mod write;
 mod zones;
 
+use crate::batch::run_batch;
 use crate::compare::run_compare;
 use crate::detect::run_detect;
 use crate::extract::run_extract;
 use crate::fault::run_fault;
+use crate::find::pairing_of;
 use crate::import::run_import;
-use crate::load::{Inputs, pair_of, read_inputs, read_record};
-use crate::output::{named_file, put_out};
+use crate::load::Inputs;
+use crate::one::view_pair;
+use crate::report::run_report;
+use crate::stream::csv_in_pieces;
 use crate::survey::run_survey;
-use crate::view::{Room, check, shown_file, verdict_json, view_file};
+use crate::wanted::{Product, Wanted};
 use crate::words::{invalid_argument, safe_lines, words_of};
-use crate::write::{run_convert, write_new};
-use bumpalo::Bump;
-use comtrade_diagnostics::{Pair, put_single};
+use crate::write::run_convert;
 use comtrade_io::{
     Answer, Asked, ToolFault, View, Viewed, answer_of, fault_of, put_safe, read_up_to, write_out,
 };
-use comtrade_read::read_cfg;
 use comtrade_values::put;
-use std::alloc::{AllocError, Allocator, Global};
+use std::alloc::{AllocError, Global};
 use std::fs::File;
-use std::io::{IsTerminal, Write};
+use std::io::IsTerminal;
 use std::process::ExitCode;
 use std::rt::Files;
 use std::{fs, io};
@@ -56,10 +69,24 @@ const LIMIT: usize = 536_870_912;
 /// Reading a pair of this size may take over a second.
 const LONG: u64 = 32_000_000;
 
-/// Prints bytes on standard error.
+/// Prints bytes on standard error, those outside ASCII in hexadecimal.
+fn say_bytes<R: Eprint>(rt: &R, bytes: &[u8]) {
+    for b in bytes {
+        if b.is_ascii() {
+            let _ = eprint!(rt; "{}", char::from(*b));
+        } else {
+            let _ = eprint!(rt; "\\x{b:02x}");
+        }
+    }
+}
+
+/// Prints lines on standard error. They are UTF-8; a line that is not is printed, too.
 pub(crate) fn say<R: Eprint>(rt: &R, bytes: &[u8]) {
-    if let Ok(text) = str::from_utf8(bytes) {
-        let _ = eprint!(rt; "{text}");
+    match str::from_utf8(bytes) {
+        Ok(text) => {
+            let _ = eprint!(rt; "{text}");
+        }
+        Err(_) => say_bytes(rt, bytes),
     }
 }
 
@@ -146,143 +173,45 @@ pub(crate) fn print_bytes<R: Print + Eprint + AllocGlobal>(rt: &R, bytes: &[u8])
     }
 }
 
-/// Prints what is asked of a part of a record; false if the record has an error, or no such part,
-/// which is put to `said`. What was repaired in a single file is printed first.
-fn put_file<R: Eprint + AllocGlobal, A: Allocator + Copy, W: Write>(
-    rt: &R,
-    room: Room<A>,
-    view: View,
-    viewed: Viewed<'_>,
-    inputs: &Inputs,
-    w: &mut W,
-    said: &mut Vec<u8, A>,
-) -> Result<bool, ToolFault> {
-    let Some((asked, file)) = shown_file(room, view, viewed, inputs, said)? else {
-        return Ok(false);
-    };
-    if inputs.is_single() {
-        say(rt, said);
-        said.clear();
-    }
-    view_file(&asked, file, w, said)
-}
-
-/// Prints what is asked of a record, and why it is refused. The exit status.
-fn put_view<R: Eprint + AllocGlobal, W: Write>(
-    rt: &R,
-    view: View,
-    viewed: Viewed<'_>,
-    inputs: &Inputs,
-    w: &mut W,
-) -> u8 {
-    let lists = Bump::new(rt.alloc());
-    let mut said = Vec::new(&lists);
-    let room = Room {
-        texts: rt.alloc(),
-        lists: &lists,
-    };
-    let shown = if view == View::Check {
-        check(room, viewed, pair_of(inputs), w)
-    } else {
-        put_file(rt, room, view, viewed, inputs, w, &mut said)
-    };
-    say(rt, &said);
-    match shown {
-        Ok(true) => 0,
-        Ok(false) => {
-            note_swapped(rt, pair_of(inputs));
-            1
-        }
-        Err(fault) => complain(rt, "standard output", fault),
-    }
-}
-
-/// Prints what is asked of a record, or writes it to the file that is named. The verdict on a record
-/// with an error is written, too.
-fn print_view<R: Files + Print + Eprint + AllocGlobal>(
-    rt: &R,
-    view: View,
-    viewed: Viewed<'_>,
-    inputs: &Inputs,
-) -> u8 {
-    let Some(name) = named_file(viewed.output) else {
-        return put_view(rt, view, viewed, inputs, &mut io::writer(rt));
-    };
-    let mut out = Vec::new(rt.alloc());
-    let status = put_view(rt, view, viewed, inputs, &mut out);
-    let is_written = status == 0 || (view == View::Check && !out.is_empty());
-    if is_written && !write_new(rt, name, &out) {
-        return 1;
-    }
-    status
-}
-
-/// Prints that the files are swapped, if the second one is the configuration file.
-fn note_swapped<R: Eprint + AllocGlobal>(rt: &R, pair: Pair<'_>) {
-    if read_cfg(rt.alloc(), pair.dat).is_ok() && read_cfg(rt.alloc(), pair.cfg).is_err() {
-        let _ = eprintln!(rt;
-            "comtrade: the files are swapped: the configuration file comes first"
-        );
-    }
-}
-
 /// Prints how much there is to read, if that may take over a second and someone watches.
 pub(crate) fn note_size<R: Eprint>(rt: &R, is_watched: bool, inputs: &Inputs) {
-    let bytes = inputs.cfg.len() as u64 + inputs.dat.len() as u64;
+    note_bytes(
+        rt,
+        is_watched,
+        inputs.cfg.len() as u64 + inputs.dat.len() as u64,
+    );
+}
+
+/// Prints that there are so many bytes to read, if that may take over a second and someone watches.
+pub(crate) fn note_bytes<R: Eprint>(rt: &R, is_watched: bool, bytes: u64) {
     if is_watched && LONG <= bytes {
         let megabytes = bytes / 1_000_000;
         let _ = eprintln!(rt; "comtrade: reading {megabytes} MB ..");
     }
 }
 
-/// That a single file is no pair, and whether `import` reads it, as text or as JSON.
-fn single_verdict(alloc: Global, inputs: &Inputs, json: bool) -> Result<Vec<u8>, AllocError> {
-    let mut text = Vec::new(alloc);
-    put_single(alloc, &mut text, pair_of(inputs))?;
-    if json {
-        verdict_json(alloc, false, &text)
-    } else {
-        Ok(text)
-    }
-}
-
-/// Prints that a single file is no pair, and whether `import` reads it.
-fn check_single<R: Files + Print + Eprint + AllocGlobal>(
-    rt: &R,
-    inputs: &Inputs,
-    viewed: Viewed<'_>,
-) -> u8 {
-    match single_verdict(rt.alloc(), inputs, viewed.json) {
-        Ok(out) => {
-            put_out(rt, viewed.output, &out);
-            1
-        }
-        Err(_) => out_of_memory(rt),
-    }
-}
-
-/// Reads a record, and prints what is asked of it.
-fn run_view<R: Files + Input + Print + Eprint + AllocGlobal + Clone + Drop>(
+/// Prints what is asked of one record.
+fn run_pair<R: Files + Input + Print + Eprint + AllocGlobal + Clone + Drop>(
     rt: &R,
     is_watched: bool,
     view: View,
     viewed: Viewed<'_>,
 ) -> u8 {
-    let inputs = if view == View::Check {
-        read_inputs(rt, viewed.names)
-    } else {
-        read_record(rt, viewed.names, viewed.part.strict)
+    let product = match view {
+        View::Show => Product::Show,
+        View::Csv => Product::Csv,
+        View::Detect => return run_detect(rt, is_watched, viewed),
     };
-    match inputs {
-        Some(inputs) if inputs.is_single() && view == View::Check => {
-            check_single(rt, &inputs, viewed)
+    let Some(names) = pairing_of(rt, viewed.names) else {
+        return 1;
+    };
+    if product == Product::Csv {
+        if let Some(status) = csv_in_pieces(rt, is_watched, &names, viewed) {
+            return status;
         }
-        Some(inputs) => {
-            note_size(rt, is_watched, &inputs);
-            print_view(rt, view, viewed, &inputs)
-        }
-        None => 1,
     }
+    let wanted = Wanted::of_pair(product, viewed);
+    view_pair(rt, is_watched, names, wanted, viewed.output)
 }
 
 fn run<R: Files + Input + Print + Eprint + AllocGlobal + Clone + Drop>(
@@ -291,12 +220,13 @@ fn run<R: Files + Input + Print + Eprint + AllocGlobal + Clone + Drop>(
     asked: Asked<'_>,
 ) -> u8 {
     match asked {
-        Asked::View(View::Detect, viewed) => run_detect(rt, is_watched, viewed),
-        Asked::View(view, viewed) => run_view(rt, is_watched, view, viewed),
+        Asked::View(view, viewed) => run_pair(rt, is_watched, view, viewed),
+        Asked::Batch(batch, asked) => run_batch(rt, is_watched, batch, &asked),
         Asked::Convert(made) => run_convert(rt, is_watched, made),
         Asked::Import(made) => run_import(rt, &made),
         Asked::Compare(made) => run_compare(rt, is_watched, made),
         Asked::Fault(made) => run_fault(rt, &made),
+        Asked::Report(made) => run_report(rt, &made),
         Asked::Extract(folder) => run_extract(rt, folder),
         Asked::Survey(kind, made) => run_survey(rt, kind, &made),
     }

@@ -2,8 +2,9 @@
 
 use crate::part::Taken;
 use crate::view::Room;
+use crate::wanted::Wanted;
 use comtrade_format::File;
-use comtrade_io::{Cursor, Part, ToolFault, Viewed, write_out};
+use comtrade_io::{Cursor, Part, ToolFault, write_out};
 use comtrade_values::{Decimal, put};
 use comtrade_views::{
     Choice, LineFrequency, MeasureFault, Measuring, Shown, measure_text, put_outside,
@@ -39,11 +40,11 @@ fn measuring_of<'a>(part: Part<'a>, cursor: Cursor<'a>) -> Measuring<'a> {
 /// The part that is measured; with `--at` it ends at that moment. None if a window is given as
 /// well, with the error in `said`.
 pub(crate) fn measured_part<'a, A: Allocator>(
-    viewed: Viewed<'a>,
+    wanted: Wanted<'a>,
     said: &mut Vec<u8, A>,
 ) -> Result<Option<Part<'a>>, ToolFault> {
-    let part = viewed.part;
-    let Some(at) = viewed.cursor.at else {
+    let part = wanted.part;
+    let Some(at) = wanted.cursor.at else {
         return Ok(Some(part));
     };
     if part.from.is_some() || part.to.is_some() {
@@ -86,16 +87,16 @@ fn frequency_in(text: Option<&str>) -> Option<LineFrequency> {
 }
 
 /// The line frequency that is asked for; None if it cannot be taken, with the error in `said`.
-fn frequency_for<A: Allocator>(
-    viewed: Viewed<'_>,
+pub(crate) fn frequency_for<A: Allocator>(
+    wanted: Wanted<'_>,
     said: &mut Vec<u8, A>,
 ) -> Result<Option<LineFrequency>, ToolFault> {
-    let frequency = frequency_in(viewed.cursor.frequency);
+    let frequency = frequency_in(wanted.cursor.frequency);
     if frequency.is_none() {
         put(said, NO_FREQUENCY)?;
         return Ok(None);
     }
-    let is_course = measuring_of(viewed.part, viewed.cursor) == Measuring::Course;
+    let is_course = measuring_of(wanted.part, wanted.cursor) == Measuring::Course;
     if is_course && frequency == Some(LineFrequency::Measured) {
         put(said, NO_MOMENT)?;
         return Ok(None);
@@ -107,24 +108,24 @@ fn frequency_for<A: Allocator>(
 /// with the error in `said`.
 pub(crate) fn measure_over<A: Allocator + Copy, W: Write>(
     room: Room<A>,
-    viewed: Viewed<'_>,
+    wanted: Wanted<'_>,
     taken: &mut Taken<A>,
     w: &mut W,
     said: &mut Vec<u8, A>,
 ) -> Result<bool, ToolFault> {
-    let Some(frequency) = frequency_for(viewed, said)? else {
+    let Some(frequency) = frequency_for(wanted, said)? else {
         return Ok(false);
     };
     let shown = Shown {
         times: &taken.times,
         first: taken.before,
-        json: viewed.json,
+        json: wanted.json,
     };
     match measure_text(
         room.texts,
         room.lists,
         &mut taken.file,
-        measuring_of(viewed.part, viewed.cursor),
+        measuring_of(wanted.part, wanted.cursor),
         frequency,
         shown,
     ) {

@@ -1,13 +1,14 @@
 //! What is printed of a pair of files.
 
 use crate::around::rms_of;
-use crate::content::{Reading, file_spelled};
+use crate::content::{Loaded, Reading, file_spelled};
 use crate::load::Inputs;
-use crate::measure::{is_outside, measure_over, measured_part};
+use crate::measure::{frequency_for, is_outside, measure_over, measured_part};
 use crate::part::{Taken, taken_of};
+use crate::wanted::{Product, Wanted};
 use comtrade_diagnostics::{Pair, check_over};
 use comtrade_format::File;
-use comtrade_io::{Part, Picture, ToolFault, View, Viewed, write_out};
+use comtrade_io::{Part, Picture, ToolFault, write_out};
 use comtrade_plot::{PlotOptions, Rms, Timed, page_over, plot_over};
 use comtrade_values::{lines_of, put, without_blank_end};
 use comtrade_views::{Spelling, csv_over, put_json, show_json, show_over, text_of};
@@ -41,8 +42,7 @@ struct Look {
 #[derive(Clone, Copy)]
 pub(crate) struct Request<'a, A: Allocator> {
     room: Room<A>,
-    view: View,
-    viewed: Viewed<'a>,
+    wanted: Wanted<'a>,
     look: Look,
 }
 
@@ -81,14 +81,14 @@ fn put_view<A: Allocator + Copy, W: Write>(
     w: &mut W,
 ) -> Result<(), ToolFault> {
     let (lists, look) = (asked.room.lists, asked.look);
-    match asked.view {
-        View::Csv => csv_over(lists, file, times, look.spelling, w),
-        View::Plot => {
+    match asked.wanted.product {
+        Product::Csv => csv_over(lists, file, times, look.spelling, w),
+        Product::Plot => {
             let list = rms_of(lists, file, times)?;
             let rms = list.as_slice();
             plot_over(lists, Timed { file, times, rms }, look.options, w)
         }
-        View::Page => {
+        Product::Page => {
             let rms: &[Rms] = &[];
             page_over(lists, Timed { file, times, rms }, w)
         }
@@ -100,11 +100,11 @@ fn put_view<A: Allocator + Copy, W: Write>(
 /// Prints the verdict on a pair, as text or as JSON.
 pub(crate) fn check<A: Allocator + Copy, W: Write>(
     room: Room<A>,
-    viewed: Viewed<'_>,
+    json: bool,
     pair: Pair<'_>,
     w: &mut W,
 ) -> Result<bool, ToolFault> {
-    if !viewed.json {
+    if !json {
         return check_over(room.lists, pair, w);
     }
     let mut text = Vec::new(room.lists);
@@ -145,22 +145,39 @@ pub(crate) fn verdict_json(
 /// How values are spelled and pictures drawn; None if a separator or size is not valid, with the
 /// error in `said`.
 fn look_of<A: Allocator>(
-    viewed: Viewed<'_>,
+    wanted: Wanted<'_>,
     said: &mut Vec<u8, A>,
 ) -> Result<Option<Look>, ToolFault> {
-    let Some(spelling) = Spelling::of(viewed.form.separator, viewed.form.decimal) else {
+    let Some(spelling) = Spelling::of(wanted.form.separator, wanted.form.decimal) else {
         put(said, NO_SPELLING)?;
         return Ok(None);
     };
-    let Some(options) = options_of(viewed.picture) else {
+    let Some(options) = options_of(wanted.picture) else {
         put(said, NO_SIZE)?;
         return Ok(None);
     };
     Ok(Some(Look {
         spelling,
         options,
-        json: viewed.json,
+        json: wanted.json,
     }))
+}
+
+/// Whether this can be asked of a record, whatever is in it, with the error in `said`.
+pub(crate) fn is_askable<A: Allocator>(
+    wanted: Wanted<'_>,
+    said: &mut Vec<u8, A>,
+) -> Result<bool, ToolFault> {
+    if look_of(wanted, said)?.is_none() {
+        return Ok(false);
+    }
+    if wanted.product != Product::Measure {
+        return Ok(true);
+    }
+    if measured_part(wanted, said)?.is_none() {
+        return Ok(false);
+    }
+    Ok(frequency_for(wanted, said)?.is_some())
 }
 
 /// The part that is asked for; None if it cannot be measured, with the error in `said`.
@@ -168,10 +185,10 @@ fn part_in<'a, A: Allocator>(
     asked: &Request<'a, A>,
     said: &mut Vec<u8, A>,
 ) -> Result<Option<Part<'a>>, ToolFault> {
-    if asked.view == View::Measure {
-        measured_part(asked.viewed, said)
+    if asked.wanted.product == Product::Measure {
+        measured_part(asked.wanted, said)
     } else {
-        Ok(Some(asked.viewed.part))
+        Ok(Some(asked.wanted.part))
     }
 }
 
@@ -182,8 +199,8 @@ fn view_taken<A: Allocator + Copy, W: Write>(
     w: &mut W,
     said: &mut Vec<u8, A>,
 ) -> Result<bool, ToolFault> {
-    if asked.view == View::Measure {
-        return measure_over(asked.room, asked.viewed, taken, w, said);
+    if asked.wanted.product == Product::Measure {
+        return measure_over(asked.room, asked.wanted, taken, w, said);
     }
     put_view(asked, &taken.file, &taken.times, w)?;
     Ok(true)
@@ -210,10 +227,10 @@ fn is_off<A: Allocator + Copy>(
     file: &File<A>,
     said: &mut Vec<u8, A>,
 ) -> Result<bool, ToolFault> {
-    if asked.view != View::Measure {
+    if asked.wanted.product != Product::Measure {
         return Ok(false);
     }
-    is_outside(asked.room.lists, file, asked.viewed.cursor, said)
+    is_outside(asked.room.lists, file, asked.wanted.cursor, said)
 }
 
 /// Prints what is asked of the part that is asked for; false if it is refused, with the error in
@@ -233,28 +250,22 @@ pub(crate) fn view_file<A: Allocator + Copy, W: Write>(
     }
 }
 
-/// What is asked of a record, and its file; None if a separator, size or encoding is not valid or
+/// What is asked of a record, and what was read; None if a separator, size or encoding is not valid or
 /// the record has an error, which is put to `said`. `said` also gets the repairs of a record, and
 /// what is doubtful about one that is shown and reads exactly.
 pub(crate) fn shown_file<'a, A: Allocator + Copy>(
     room: Room<A>,
-    view: View,
-    viewed: Viewed<'a>,
+    wanted: Wanted<'a>,
     inputs: &Inputs,
     said: &mut Vec<u8, A>,
-) -> Result<Option<(Request<'a, A>, File<A>)>, ToolFault> {
-    let Some(look) = look_of(viewed, said)? else {
+) -> Result<Option<(Request<'a, A>, Loaded<A>)>, ToolFault> {
+    let Some(look) = look_of(wanted, said)? else {
         return Ok(None);
     };
-    let reading = Reading::to_show(viewed.part, view == View::Show);
+    let reading = Reading::to_show(wanted.part, wanted.product == Product::Show);
     let Some(loaded) = file_spelled(room.lists, inputs, reading, said)? else {
         return Ok(None);
     };
-    let asked = Request {
-        room,
-        view,
-        viewed,
-        look,
-    };
-    Ok(Some((asked, loaded.file)))
+    let asked = Request { room, wanted, look };
+    Ok(Some((asked, loaded)))
 }

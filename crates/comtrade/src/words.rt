@@ -40,7 +40,7 @@ fn is_negative(word: &str) -> bool {
 
 /// Whether the value of this option may be below 0.
 fn takes_moment(word: &str) -> bool {
-    word == "--from" || word == "--to" || word == "--at"
+    word == "--from" || word == "--to" || word == "--at" || word == "--shift"
 }
 
 /// Joins a value to the option before it.

@@ -1,14 +1,7 @@
 -- The readings of an analogue channel, row by row. Rows and channels count from 0.
 use Rattle.std.specs.Prelude.{ℕ, ℤ, Bool, List, Option, Some, None, is_some, slice_get, option_and_then}
-use Rattle.dfr_channels.specs.declared.scan.Reading.{Reading}
-use Rattle.dfr_channels.specs.declared.scan.Reading.TheVariants.{Value, Missing}
+use Rattle.dfr_channels.specs.Scans.{sample_in}
 use Rattle.comtrade_format.specs.Parts.{RowParts}
-
--- what a reading gives; a row without this channel is missing it
-abbrev pub sample_in : Option Reading → Option ℤ
-sample_in (Some (Value x)) = Some x
-sample_in (Some Missing) = None
-sample_in None = None
 
 -- the sample of a channel in a row
 abbrev pub sample : ℕ → RowParts → Option ℤ

@@ -13,7 +13,7 @@ use crate::summary::last_row;
 use bumpalo::Bump;
 use byteorder::{ByteOrder, LittleEndian};
 use comtrade_format::Head;
-use comtrade_read::ReadFault;
+use comtrade_read::{ReadFault, row_size};
 
 /// The sample in the first two bytes, in two's complement. The lowest number means missing.
 fn sample_at(bytes: &[u8]) -> i32
@@ -77,15 +77,6 @@ fn put_row_bits(to: &mut [u8], bytes: &[u8])
         let group = LittleEndian::read_u16(&bytes[2 * whole..]);
         put_group(&mut to[at..], group);
     }
-}
-
-/// The number of bytes of a row of k samples and m bits.
-fn row_size(k: usize, m: usize) -> usize
-    requires k { k < 1000000 }
-    requires m { m < 1000000 }
-    ensures { result ≡ row_size k m }
-{
-    8 + 2 * k + 2 * ((m + 15) / 16)
 }
 
 /// Fills the stamp, the samples and the bits of each row of k samples and m bits.

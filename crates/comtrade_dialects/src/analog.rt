@@ -2,11 +2,11 @@
 
 ghost use Rattle.std.specs.Prelude.{◌<◌};
 
-use crate::draft::{Range, Said};
+use crate::draft::{DeclaredRange, Range};
 use crate::fault::{ImportFault, Why};
-use crate::field::{Parts, joint_of};
+use crate::field::{LineFields, joint_of};
 use crate::key::Key;
-use crate::lines::{Row, at, decimal_of, decimal_or, phase_of, text_of};
+use crate::lines::{FieldRow, at, decimal_of, decimal_or, phase_of, text_of};
 use crate::note::{Notes, Place};
 use crate::range::range_of;
 use comtrade_values::{Decimal, Items, integer_of};
@@ -15,8 +15,8 @@ use std::alloc::Allocator;
 
 /// The layout of a line; the fields after the texts may be shifted to the right.
 #[derive(Clone, Copy)]
-pub(crate) struct Shape<'a> {
-    pub parts: Parts<'a>,
+pub(crate) struct AnalogShape<'a> {
+    pub parts: LineFields<'a>,
     pub line: u64,
     /// The line has ten fields, without ratio and side.
     is_short: bool,
@@ -41,7 +41,7 @@ pub(crate) fn tell_index<A: Allocator + Copy>(
 
 fn side_of<A: Allocator + Copy>(
     notes: &mut Notes<A>,
-    shape: Shape<'_>,
+    shape: AnalogShape<'_>,
 ) -> Result<Side, ImportFault> {
     if shape.is_short {
         return Ok(Side::Primary);
@@ -74,7 +74,7 @@ fn free_of<A: Allocator + Copy>(
 fn ratio_of<A: Allocator + Copy>(
     notes: &mut Notes<A>,
     mark: u8,
-    shape: Shape<'_>,
+    shape: AnalogShape<'_>,
     index: usize,
 ) -> Result<Decimal, ImportFault> {
     if shape.is_short {
@@ -94,7 +94,7 @@ fn ratio_of<A: Allocator + Copy>(
 
 fn unit_of<A: Allocator + Copy>(
     notes: &mut Notes<A>,
-    shape: Shape<'_>,
+    shape: AnalogShape<'_>,
 ) -> Result<Items<u8, A>, ImportFault> {
     let unit = text_of(notes, shape.line, shape.parts.at(4), 32, None)?;
     if notes.keeps_texts() || !unit.items().is_empty() {
@@ -121,7 +121,7 @@ struct Numbers {
 fn numbers_of<A: Allocator + Copy>(
     notes: &mut Notes<A>,
     mark: u8,
-    shape: Shape<'_>,
+    shape: AnalogShape<'_>,
 ) -> Result<Numbers, ImportFault> {
     let (parts, line) = (shape.parts, shape.line);
     if parts.at(5).is_empty() {
@@ -153,7 +153,7 @@ fn numbers_of<A: Allocator + Copy>(
 /// The channel in a line with this layout.
 fn channel_of<A: Allocator + Copy>(
     notes: &mut Notes<A>,
-    shape: Shape<'_>,
+    shape: AnalogShape<'_>,
     number: u64,
     numbers: Numbers,
 ) -> Result<AnalogChannel<A>, ImportFault> {
@@ -179,7 +179,7 @@ fn channel_of<A: Allocator + Copy>(
 }
 
 /// Whether all fields of this range are numbers or empty.
-fn are_numbers(parts: &Parts<'_>, from: usize, to: usize) -> bool {
+fn are_numbers(parts: &LineFields<'_>, from: usize, to: usize) -> bool {
     for i in from..to {
         let field = parts.at(i);
         if !field.is_empty() && Decimal::read(field).is_none() {
@@ -191,7 +191,7 @@ fn are_numbers(parts: &Parts<'_>, from: usize, to: usize) -> bool {
 
 /// Whether the extra comma can belong to the text of this field: phase and unit stay valid, and the
 /// part after the comma is not a number.
-fn can_join(parts: &Parts<'_>, joint: usize) -> bool
+fn can_join(parts: &LineFields<'_>, joint: usize) -> bool
     requires { joint < 64 }
 {
     let Some(joined) = parts.joined(joint) else {
@@ -206,7 +206,7 @@ fn can_join(parts: &Parts<'_>, joint: usize) -> bool
 
 /// The fields of a line with one field too many, if the extra comma can only belong to the id or
 /// the component.
-fn told_apart<'a>(parts: &Parts<'a>) -> Option<Parts<'a>> {
+fn told_apart<'a>(parts: &LineFields<'a>) -> Option<LineFields<'a>> {
     let has_side = matches!(parts.at(13), [b'P' | b'p' | b'S' | b's']);
     let can_be = parts.full == 14 && has_side && are_numbers(parts, 6, 13)
         || parts.full == 11 && are_numbers(parts, 6, 11);
@@ -218,7 +218,7 @@ fn told_apart<'a>(parts: &Parts<'a>) -> Option<Parts<'a>> {
 }
 
 /// The fields of an analogue channel's line.
-fn fields_of(row: Row<'_>) -> Result<Parts<'_>, ImportFault> {
+fn fields_of(row: FieldRow<'_>) -> Result<LineFields<'_>, ImportFault> {
     let parts = row.parts;
     if 10 <= parts.all && parts.full <= 13 && parts.full != 11 {
         return Ok(parts);
@@ -235,23 +235,23 @@ fn fields_of(row: Row<'_>) -> Result<Parts<'_>, ImportFault> {
 pub(crate) fn analog_of<'a, A: Allocator + Copy>(
     notes: &mut Notes<A>,
     mark: u8,
-    row: Row<'a>,
+    row: FieldRow<'a>,
     place: (u64, bool),
-) -> Result<(AnalogChannel<A>, Said, &'a [u8]), ImportFault> {
+) -> Result<(AnalogChannel<A>, DeclaredRange, &'a [u8]), ImportFault> {
     let (number, is_old) = place;
     let parts = fields_of(row)?;
     let is_short = parts.all == 10 || is_old && parts.full <= 10;
     if is_short && !notes.has(Key::SidesAbsent) {
         notes.tell(Key::SidesAbsent, Place::Cfg(row.number), &[])?;
     }
-    let shape = Shape {
+    let shape = AnalogShape {
         parts,
         line: row.number,
         is_short,
     };
     tell_index(notes, row.number, parts.at(0), number)?;
     let numbers = numbers_of(notes, mark, shape)?;
-    let said = Said {
+    let said = DeclaredRange {
         range: numbers.range,
         line: row.number,
     };

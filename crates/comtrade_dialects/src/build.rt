@@ -1,18 +1,18 @@
 //! Builds a file of 1999 from what was read.
 
 use crate::data::plan_of;
-use crate::draft::{Channels, Draft, Range, Revision};
+use crate::draft::{ChannelLines, ConfigDraft, Range, Revision};
 use crate::fault::{ImportFault, Why};
 use crate::kinds::Form;
 use crate::marks::marks_of;
 use crate::note::{Notes, Place};
 use crate::pair::Samples;
 use crate::readings::rows_of;
-use crate::row::Plan;
+use crate::row::RowsPlan;
 use crate::scaled::{settle_channels, tell_errors};
-use crate::span::Bounds;
-use crate::stamps::{Times, Track, times_of};
-use crate::survey::{Ground, Survey, survey_of};
+use crate::span::WholeBounds;
+use crate::stamps::{StampTrack, Times, times_of};
+use crate::survey::{Ground, RowsSurvey, survey_of};
 use crate::wraps::undo_wraps;
 use comtrade_format::{File, Head, Kind, Rate, Row};
 use comtrade_values::{Decimal, Items};
@@ -29,11 +29,11 @@ struct Body<A: Allocator> {
 fn times_in<A: Allocator + Copy>(
     alloc: A,
     notes: &mut Notes<A>,
-    draft: &Draft<A>,
-    survey: &Survey<A>,
+    draft: &ConfigDraft<A>,
+    survey: &RowsSurvey<A>,
     ground: Ground<'_>,
 ) -> Result<Times<A>, ImportFault> {
-    let track = Track {
+    let track = StampTrack {
         ticks: &survey.ticks,
         timemult: draft.timemult,
         most: if ground.is_text() {
@@ -52,7 +52,7 @@ fn times_in<A: Allocator + Copy>(
 fn body_of<A: Allocator + Copy>(
     alloc: A,
     notes: &mut Notes<A>,
-    draft: &mut Draft<A>,
+    draft: &mut ConfigDraft<A>,
     ground: Ground<'_>,
 ) -> Result<Body<A>, ImportFault> {
     let mut survey = survey_of(alloc, notes, ground)?;
@@ -60,7 +60,7 @@ fn body_of<A: Allocator + Copy>(
         undo_wraps(notes, &mut survey.ticks, draft.timemult)?;
     }
     let times = times_in(alloc, notes, draft, &survey, ground)?;
-    let Channels {
+    let ChannelLines {
         analog,
         said,
         status: _,
@@ -92,8 +92,8 @@ fn put_no_rate<A: Allocator>(rates: &mut Vec<Rate, A>, rows: u64) -> Result<(), 
 }
 
 /// The file made of a draft and its rows.
-fn joined<A: Allocator>(draft: Draft<A>, body: Body<A>, nrates: u32, kind: Kind) -> File<A> {
-    let Draft {
+fn joined<A: Allocator>(draft: ConfigDraft<A>, body: Body<A>, nrates: u32, kind: Kind) -> File<A> {
+    let ConfigDraft {
         names,
         channels,
         line_freq,
@@ -124,14 +124,14 @@ fn joined<A: Allocator>(draft: Draft<A>, body: Body<A>, nrates: u32, kind: Kind)
     }
 }
 
-fn bounds_of(is_text: bool) -> Bounds {
+fn bounds_of(is_text: bool) -> WholeBounds {
     if is_text {
-        Bounds {
+        WholeBounds {
             low: -99_999,
             high: 99_998,
         }
     } else {
-        Bounds {
+        WholeBounds {
             low: -32_767,
             high: 32_767,
         }
@@ -149,8 +149,8 @@ struct Ranges<A: Allocator> {
 
 fn ranges_of<A: Allocator + Copy>(
     alloc: A,
-    draft: &Draft<A>,
-    plan: Plan<'_>,
+    draft: &ConfigDraft<A>,
+    plan: RowsPlan<'_>,
 ) -> Result<Ranges<A>, ImportFault> {
     let is_short = plan.form() == Form::Binary;
     let mut ranges = Ranges {
@@ -174,8 +174,8 @@ fn ranges_of<A: Allocator + Copy>(
 
 /// The context for reading the rows of data in this form.
 fn ground_of<'a, A: Allocator>(
-    draft: &Draft<A>,
-    plan: Plan<'a>,
+    draft: &ConfigDraft<A>,
+    plan: RowsPlan<'a>,
     ranges: &'a Ranges<A>,
     samples: Samples,
 ) -> Ground<'a> {
@@ -196,7 +196,7 @@ fn ground_of<'a, A: Allocator>(
 pub(crate) fn file_of<A: Allocator + Copy>(
     alloc: A,
     notes: &mut Notes<A>,
-    mut draft: Draft<A>,
+    mut draft: ConfigDraft<A>,
     dat: &[u8],
     samples: Samples,
 ) -> Result<File<A>, ImportFault> {

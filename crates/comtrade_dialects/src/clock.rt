@@ -9,7 +9,7 @@ use std::alloc::{AllocError, Allocator};
 
 /// A run of rows at one rate.
 #[derive(Clone, Copy)]
-struct Run {
+struct RateSpan {
     /// The row from which the rows of the run are counted, and its time.
     from: u64,
     base: i128,
@@ -21,12 +21,12 @@ struct Run {
 /// The times of rows, given the rates.
 #[derive(Drop)]
 pub(crate) struct Clock<A: Allocator> {
-    runs: Vec<Run, A>,
+    runs: Vec<RateSpan, A>,
 }
 
 const SECOND: i128 = 1_000_000_000_000;
 
-impl Run {
+impl RateSpan {
     fn time_of(&self, row: u64) -> Option<i128> {
         let rows = i128::from(row.checked_sub(self.from)?);
         let part = 10i128.checked_pow(self.places)?.checked_mul(SECOND)?;
@@ -42,11 +42,11 @@ impl<A: Allocator + Copy> Clock<A> {
         rates: &[Rate],
         border: Border,
     ) -> Result<Option<Clock<A>>, AllocError> {
-        let mut runs: Vec<Run, A> = Vec::new(alloc);
+        let mut runs: Vec<RateSpan, A> = Vec::new(alloc);
         let mut from = 0u64;
         let mut base = 0i128;
         for rate in rates {
-            let run = Run {
+            let run = RateSpan {
                 from,
                 base,
                 end: rate.endsamp,

@@ -2,7 +2,7 @@
 
 use crate::fault::{ImportFault, Why};
 use crate::key::Key;
-use crate::lines::{Reader, Row, at, next_row};
+use crate::lines::{FieldRow, LineReader, at, next_row};
 use crate::note::Place;
 use comtrade_values::{integer_of, trim};
 use std::alloc::Allocator;
@@ -26,15 +26,15 @@ fn count_of(text: &[u8]) -> Option<(u64, u8, bool)> {
 
 /// The counts in the line.
 #[derive(Clone, Copy)]
-struct Counts {
+struct DeclaredCounts {
     total: Option<u64>,
     analog: Option<u64>,
     status: Option<u64>,
     is_odd: bool,
 }
 
-fn counted(row: Row<'_>) -> Option<Counts> {
-    let mut counts = Counts {
+fn counted(row: FieldRow<'_>) -> Option<DeclaredCounts> {
+    let mut counts = DeclaredCounts {
         total: None,
         analog: None,
         status: None,
@@ -76,7 +76,7 @@ fn counted(row: Row<'_>) -> Option<Counts> {
 
 /// The numbers of analogue and of status channels.
 pub(crate) fn counts_of<A: Allocator + Copy>(
-    reader: &mut Reader<'_, '_, A>,
+    reader: &mut LineReader<'_, '_, A>,
     bytes: u64,
 ) -> Result<(u64, u64), ImportFault> {
     let row = next_row(&mut reader.cursor, reader.mark, reader.notes, 3)?;

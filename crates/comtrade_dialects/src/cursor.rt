@@ -5,7 +5,7 @@ use memchr::memchr;
 
 /// A line that isn't blank, without its end.
 #[derive(Clone, Copy)]
-pub(crate) struct Line<'a> {
+pub(crate) struct TextLine<'a> {
     pub text: &'a [u8],
     /// The number of the line, counted from 1.
     pub number: u64,
@@ -19,7 +19,7 @@ pub(crate) struct Line<'a> {
 
 /// The rest of a text.
 #[derive(Clone, Copy)]
-pub(crate) struct Cursor<'a> {
+pub(crate) struct TextCursor<'a> {
     left: Option<&'a [u8]>,
     line: u64,
     end: u8,
@@ -40,11 +40,11 @@ fn without_returns(line: &[u8]) -> (&[u8], u8) {
     }
 }
 
-impl<'a> Cursor<'a> {
+impl<'a> TextCursor<'a> {
     /// The lines of a text. If it has no line feed, carriage returns end its lines.
-    pub(crate) fn new(text: &'a [u8]) -> Cursor<'a> {
+    pub(crate) fn new(text: &'a [u8]) -> TextCursor<'a> {
         let ends_alone = memchr(b'\n', text).is_none() && memchr(b'\r', text).is_some();
-        Cursor {
+        TextCursor {
             left: Some(text),
             line: 0,
             end: if ends_alone { b'\r' } else { b'\n' },
@@ -57,7 +57,7 @@ impl<'a> Cursor<'a> {
     }
 
     /// The next line, blank or not.
-    fn step(&mut self) -> Option<Line<'a>> {
+    fn step(&mut self) -> Option<TextLine<'a>> {
         let text = self.left?;
         self.line = self.next_number();
         let (line, left) = match around(text, self.end) {
@@ -66,7 +66,7 @@ impl<'a> Cursor<'a> {
         };
         self.left = left;
         let (line, returns) = without_returns(line);
-        Some(Line {
+        Some(TextLine {
             text: line,
             number: self.line,
             after_blank: false,
@@ -76,7 +76,7 @@ impl<'a> Cursor<'a> {
     }
 
     /// The next line that isn't blank.
-    pub(crate) fn next_line(&mut self) -> Option<Line<'a>> {
+    pub(crate) fn next_line(&mut self) -> Option<TextLine<'a>> {
         let mut after_blank = false;
         for _ in 0..u64::MAX {
             let mut line = self.step()?;

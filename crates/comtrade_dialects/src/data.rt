@@ -1,14 +1,14 @@
 //! Decides on the form of the data: the one in the configuration file, unless the data
 //! prove another.
 
-use crate::cursor::{Cursor, around};
-use crate::draft::Draft;
+use crate::cursor::{TextCursor, around};
+use crate::draft::ConfigDraft;
 use crate::fault::{ImportFault, Why};
 use crate::key::Key;
 use crate::kinds::Form;
-use crate::look::{Look, follow, look_at};
+use crate::look::{FormEvidence, follow, look_at};
 use crate::note::{Notes, Place};
-use crate::row::{Cells, Counts, Plan};
+use crate::row::{Cells, RowCounts, RowsPlan};
 use crate::text::{has_only, without_empty_end};
 use crate::text_row::read_line;
 use comtrade_values::trim;
@@ -25,7 +25,7 @@ fn around_mark(dat: &[u8]) -> (&[u8], &[u8]) {
 
 /// The separator between the fields of ASCII rows.
 fn mark_of(text: &[u8]) -> u8 {
-    let mut cursor = Cursor::new(text);
+    let mut cursor = TextCursor::new(text);
     match cursor.next_line() {
         Some(line) if memchr(b';', line.text).is_some() => b';',
         _ => b',',
@@ -36,7 +36,7 @@ fn mark_of(text: &[u8]) -> u8 {
 #[derive(Drop)]
 struct Data<'a, 'n, A: Allocator> {
     bytes: &'a [u8],
-    counts: Counts,
+    counts: RowCounts,
     last: Option<u64>,
     notes: &'n mut Notes<A>,
 }
@@ -45,7 +45,7 @@ impl<'a, A: Allocator + Copy> Data<'a, '_, A> {
     /// Whether the first row can be read as ASCII.
     fn is_text(&self) -> bool {
         let (text, _) = around_mark(self.bytes);
-        let mut cursor = Cursor::new(text);
+        let mut cursor = TextCursor::new(text);
         let mut cells = Cells::new(self.notes.allocator());
         match cursor.next_line() {
             Some(line) => read_line(&mut cells, line.text, mark_of(text), self.counts).is_ok(),
@@ -60,7 +60,7 @@ impl<'a, A: Allocator + Copy> Data<'a, '_, A> {
     }
 
     /// What the data prove about a form whose rows have the usual size and order of bytes.
-    fn look_as(&self, form: Form) -> Result<Look<'a>, ImportFault> {
+    fn look_as(&self, form: Form) -> Result<FormEvidence<'a>, ImportFault> {
         Ok(look_at(self.bytes, form, self.size_in(form)?, false))
     }
 
@@ -70,14 +70,14 @@ impl<'a, A: Allocator + Copy> Data<'a, '_, A> {
     }
 
     /// A plan for binary rows; notes a byte 1A after them.
-    fn packed(&mut self, look: Look<'a>) -> Result<Plan<'a>, ImportFault> {
+    fn packed(&mut self, look: FormEvidence<'a>) -> Result<RowsPlan<'a>, ImportFault> {
         if look.has_mark {
             self.tell(Key::Dat1a, "")?;
         }
-        Ok(Plan::Packed(look.packed))
+        Ok(RowsPlan::Packed(look.packed))
     }
 
-    fn text_plan(&mut self) -> Result<Plan<'a>, ImportFault> {
+    fn text_plan(&mut self) -> Result<RowsPlan<'a>, ImportFault> {
         let (text, rest) = around_mark(self.bytes);
         if !has_only(rest, b"\x1a\r\n \0") {
             self.tell(Key::DatAfterEnd, "")?;
@@ -86,19 +86,19 @@ impl<'a, A: Allocator + Copy> Data<'a, '_, A> {
         if mark == b';' {
             self.tell(Key::SeparatorSemicolon, "")?;
         }
-        if Cursor::new(text).ends_in_returns() {
+        if TextCursor::new(text).ends_in_returns() {
             self.tell(Key::LineEndsCr, "")?;
         }
         let (meant, left_out) = without_empty_end(text, mark);
         if left_out.contains(&mark) {
             self.tell(Key::TrailingCommas, "")?;
         }
-        Ok(Plan::Text(meant, mark))
+        Ok(RowsPlan::Text(meant, mark))
     }
 
     /// The plan of data that prove to be BINARY, with a note on the declared type; None for
     /// other data.
-    fn as_binary(&mut self, said: Option<&str>) -> Result<Option<Plan<'a>>, ImportFault> {
+    fn as_binary(&mut self, said: Option<&str>) -> Result<Option<RowsPlan<'a>>, ImportFault> {
         let short = self.look_as(Form::Binary)?;
         if !short.is_proved() {
             return Ok(None);
@@ -110,7 +110,7 @@ impl<'a, A: Allocator + Copy> Data<'a, '_, A> {
     }
 
     /// The plan of data that are text or prove to be BINARY; None for other data.
-    fn text_or_binary(&mut self, is_said: bool) -> Result<Option<Plan<'a>>, ImportFault> {
+    fn text_or_binary(&mut self, is_said: bool) -> Result<Option<RowsPlan<'a>>, ImportFault> {
         if self.is_text() {
             return Ok(Some(self.text_plan()?));
         }
@@ -118,7 +118,7 @@ impl<'a, A: Allocator + Copy> Data<'a, '_, A> {
     }
 
     /// The plan of data that the configuration file declares as text.
-    fn said_text(&mut self) -> Result<Plan<'a>, ImportFault> {
+    fn said_text(&mut self) -> Result<RowsPlan<'a>, ImportFault> {
         if let Some(plan) = self.text_or_binary(true)? {
             return Ok(plan);
         }
@@ -147,7 +147,7 @@ impl<'a, A: Allocator + Copy> Data<'a, '_, A> {
 
     /// The plan of whole rows whose numbers do not increase by one. Refused if the numbers follow
     /// no other pattern and there are more or fewer rows than declared.
-    fn unproved(&mut self, own: Look<'a>) -> Result<Plan<'a>, ImportFault> {
+    fn unproved(&mut self, own: FormEvidence<'a>) -> Result<RowsPlan<'a>, ImportFault> {
         let rows = own.packed.count() as u64;
         if self.last == Some(rows) || follow(own.packed, self.last) {
             self.packed(own)
@@ -157,7 +157,7 @@ impl<'a, A: Allocator + Copy> Data<'a, '_, A> {
     }
 
     /// The plan of data that prove to have another form than declared.
-    fn proved(&mut self, form: Form) -> Result<Option<Plan<'a>>, ImportFault> {
+    fn proved(&mut self, form: Form) -> Result<Option<RowsPlan<'a>>, ImportFault> {
         let size = self.size_in(form)?;
         let big = look_at(self.bytes, form, size, true);
         if big.is_proved() {
@@ -186,7 +186,7 @@ impl<'a, A: Allocator + Copy> Data<'a, '_, A> {
     }
 
     /// The plan of data that the configuration file declares as binary.
-    fn said_packed(&mut self, form: Form) -> Result<Plan<'a>, ImportFault> {
+    fn said_packed(&mut self, form: Form) -> Result<RowsPlan<'a>, ImportFault> {
         let own = self.look_as(form)?;
         if own.is_proved() {
             return self.packed(own);
@@ -204,7 +204,7 @@ impl<'a, A: Allocator + Copy> Data<'a, '_, A> {
             return Err(ImportFault::Whole(Why::Length));
         };
         self.notes.tell(Key::RowCut, Place::Row(row), &[])?;
-        Ok(Plan::Packed(own.packed))
+        Ok(RowsPlan::Packed(own.packed))
     }
 
     /// Notes forms that 1999 does not have.
@@ -220,9 +220,9 @@ impl<'a, A: Allocator + Copy> Data<'a, '_, A> {
 /// Where the rows are, and in which form.
 pub(crate) fn plan_of<'a, A: Allocator + Copy>(
     notes: &mut Notes<A>,
-    draft: &Draft<A>,
+    draft: &ConfigDraft<A>,
     bytes: &'a [u8],
-) -> Result<Plan<'a>, ImportFault> {
+) -> Result<RowsPlan<'a>, ImportFault> {
     if trim(bytes).is_empty() {
         return Err(ImportFault::Whole(Why::NoRow));
     }

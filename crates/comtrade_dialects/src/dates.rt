@@ -26,7 +26,7 @@ pub(crate) struct Civil {
 
 /// A time of day in microseconds since midnight.
 #[derive(Clone, Copy)]
-pub(crate) struct Clock {
+pub(crate) struct TimeOfDay {
     pub micros: i64,
     pub is_24: bool,
     pub is_leap: bool,
@@ -172,7 +172,7 @@ fn micros_of(digits: &[u8]) -> Option<i64> {
 }
 
 /// A time of day such as hh:mm:ss.ssssss, which the mark of UTC may follow.
-pub(crate) fn clock_of(text: &[u8]) -> Option<Clock> {
+pub(crate) fn clock_of(text: &[u8]) -> Option<TimeOfDay> {
     let text = match text {
         [front @ .., b'Z' | b'z'] => front,
         _ => text,
@@ -193,7 +193,7 @@ pub(crate) fn clock_of(text: &[u8]) -> Option<Clock> {
         return None;
     }
     let whole = i64::from(hours) * 3600 + i64::from(minutes) * 60 + i64::from(seconds);
-    Some(Clock {
+    Some(TimeOfDay {
         micros: whole.checked_mul(1_000_000)?.checked_add(fraction)?,
         is_24,
         is_leap: seconds == 60,

@@ -1,7 +1,7 @@
 //! Oddities of a file that reads exactly: two statements that disagree, or something
 //! hardly intended.
 
-use crate::clock::{Clock, time_of_whole};
+use crate::seen::{TimesSeen, clock_with};
 use comtrade_format::{File, Head, Row, border_of};
 use dfr_channels::{AnalogChannel, Reading};
 use std::alloc::{AllocError, Allocator};
@@ -36,7 +36,7 @@ pub struct Doubts {
 }
 
 impl Doubt {
-    fn add(&mut self, row: u64, channel: u64) {
+    pub(crate) fn add(&mut self, row: u64, channel: u64) {
         if self.count == 0 {
             self.row = row;
             self.channel = channel;
@@ -49,83 +49,18 @@ impl Doubt {
     }
 }
 
-/// The times of rows given the rates, if there are any.
-pub(crate) fn clock_of<A: Allocator + Copy>(
+/// Adds the oddities of row numbers and stamps.
+fn add_times<A: Allocator + Copy>(
     alloc: A,
-    file: &File<A>,
-) -> Result<Option<Clock<A>>, AllocError> {
-    if file.head.nrates == 0 {
-        return Ok(None);
-    }
-    Clock::new(alloc, file.head.rates.items(), border_of(file))
-}
-
-/// What the stamps so far say of the times.
-#[derive(Clone, Copy)]
-struct Sight {
-    /// The run of rates of the last row.
-    at: usize,
-    /// The time that the first stamp means less the time that the rates give.
-    start: Option<i128>,
-    /// The time of one stamp unit.
-    unit: i128,
-}
-
-impl Sight {
-    /// Whether a stamp is near the time that the rates give to its row, which is counted from 0;
-    /// None if 128 bits cannot hold its time.
-    fn is_near<A: Allocator>(
-        &mut self,
-        clock: &Clock<A>,
-        index: u64,
-        time: Option<i128>,
-    ) -> Option<bool> {
-        let (wanted, half) = clock.time_of(&mut self.at, index)?;
-        let late = time?.checked_sub(wanted)?;
-        let first = match self.start {
-            Some(first) => first,
-            None => late,
-        };
-        self.start = Some(first);
-        let off = late.checked_sub(first)?.unsigned_abs();
-        Some(off <= half.max(self.unit).unsigned_abs())
-    }
-}
-
-/// Adds the oddities of row numbers and stamps. A stamp that has no time disagrees with the rates.
-pub(crate) fn add_times<A: Allocator + Copy>(
     doubts: &mut Doubts,
     file: &File<A>,
-    clock: &Option<Clock<A>>,
-) {
-    let timemult = file.head.timemult;
-    let mut sight = Sight {
-        at: 0,
-        start: None,
-        unit: time_of_whole(1, timemult).unwrap_or(0), // (then no stamp but 0 has a time either)
-    };
-    let mut before: Option<&Row<A>> = None;
-    let mut stamped: Option<u64> = None;
-    for (index, row) in file.rows.items().iter().enumerate() {
-        let place = index as u64 + 1;
-        if before.is_some_and(|before| row.number <= before.number) {
-            doubts.repeated.add(place, 0);
-        }
-        before = Some(row);
-        let Some(stamp) = row.stamp else {
-            continue;
-        };
-        if stamped.is_some_and(|stamped| stamp < stamped) {
-            doubts.falling.add(place, 0);
-        }
-        stamped = Some(stamp);
-        if let Some(clock) = clock {
-            let time = time_of_whole(stamp, timemult);
-            if sight.is_near(clock, index as u64, time) != Some(true) {
-                doubts.off.add(place, 0);
-            }
-        }
+) -> Result<(), AllocError> {
+    let clock = clock_with(alloc, &file.head, border_of(file))?;
+    let mut times = TimesSeen::new(file.head.timemult);
+    for row in file.rows.items() {
+        times.take(doubts, &clock, row.number, row.stamp);
     }
+    Ok(())
 }
 
 /// Whether a sample is outside the range of its channel, even if min and max are swapped.
@@ -271,8 +206,7 @@ pub fn doubts_of<A: Allocator + Copy>(alloc: A, file: &File<A>) -> Result<Doubts
             doubts.turned.add(0, number);
         }
     }
-    let clock = clock_of(alloc, file)?;
-    add_times(&mut doubts, file, &clock);
+    add_times(alloc, &mut doubts, file)?;
     add_samples(alloc, &mut doubts, file)?;
     add_texts(&mut doubts.foreign, &file.head);
     Ok(doubts)

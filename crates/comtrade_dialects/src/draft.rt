@@ -1,7 +1,7 @@
 //! The contents of a configuration file, before the data are known.
 
 use crate::kinds::Form;
-use crate::row::Counts;
+use crate::row::RowCounts;
 use comtrade_format::Rate;
 use comtrade_values::{Decimal, Items};
 use dfr_channels::{AnalogChannel, StatusChannel};
@@ -32,7 +32,7 @@ pub(crate) enum Range {
 
 /// How the line of an analogue channel declares its range.
 #[derive(Clone, Copy)]
-pub(crate) struct Said {
+pub(crate) struct DeclaredRange {
     pub range: Range,
     pub line: u64,
 }
@@ -47,16 +47,16 @@ pub(crate) struct Rates<A: Allocator> {
 
 /// The channels.
 #[derive(Drop)]
-pub(crate) struct Channels<A: Allocator> {
+pub(crate) struct ChannelLines<A: Allocator> {
     pub analog: Vec<AnalogChannel<A>, A>,
     /// For each analogue channel.
-    pub said: Vec<Said, A>,
+    pub said: Vec<DeclaredRange, A>,
     pub status: Vec<StatusChannel<A>, A>,
 }
 
-impl<A: Allocator> Channels<A> {
-    pub(crate) fn counts(&self) -> Counts {
-        Counts {
+impl<A: Allocator> ChannelLines<A> {
+    pub(crate) fn counts(&self) -> RowCounts {
+        RowCounts {
             k: self.analog.len(),
             m: self.status.len(),
         }
@@ -65,16 +65,16 @@ impl<A: Allocator> Channels<A> {
 
 /// The names in the first line.
 #[derive(Drop)]
-pub(crate) struct Names<A: Allocator> {
+pub(crate) struct NamesLine<A: Allocator> {
     pub station: Items<u8, A>,
     pub device: Items<u8, A>,
 }
 
 /// The contents of the lines of a configuration file.
 #[derive(Drop)]
-pub(crate) struct Draft<A: Allocator> {
-    pub names: Names<A>,
-    pub channels: Channels<A>,
+pub(crate) struct ConfigDraft<A: Allocator> {
+    pub names: NamesLine<A>,
+    pub channels: ChannelLines<A>,
     pub line_freq: Decimal,
     pub rates: Rates<A>,
     pub first: i64,

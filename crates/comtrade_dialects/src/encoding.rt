@@ -4,18 +4,18 @@ use std::alloc::{AllocError, Allocator};
 
 /// The byte order of a UTF-16 text.
 #[derive(Clone, Copy, PartialEq, Eq)]
-enum Wide {
+enum Utf16Order {
     Little,
     Big,
 }
 
 /// Whether a text is UTF-16: it has the mark, or every second one of its first bytes is zero.
-fn wide_of(text: &[u8]) -> Option<Wide> {
+fn wide_of(text: &[u8]) -> Option<Utf16Order> {
     match text {
-        [0xff, 0xfe, ..] => Some(Wide::Little),
-        [0xfe, 0xff, ..] => Some(Wide::Big),
-        [a, 0, b, 0, ..] if *a != 0 && *b != 0 => Some(Wide::Little),
-        [0, a, 0, b, ..] if *a != 0 && *b != 0 => Some(Wide::Big),
+        [0xff, 0xfe, ..] => Some(Utf16Order::Little),
+        [0xfe, 0xff, ..] => Some(Utf16Order::Big),
+        [a, 0, b, 0, ..] if *a != 0 && *b != 0 => Some(Utf16Order::Little),
+        [0, a, 0, b, ..] if *a != 0 && *b != 0 => Some(Utf16Order::Big),
         _ => None,
     }
 }
@@ -24,10 +24,10 @@ pub(crate) fn is_wide(text: &[u8]) -> bool {
     wide_of(text).is_some()
 }
 
-fn unit_of(wide: Wide, pair: &[u8]) -> u16 {
+fn unit_of(wide: Utf16Order, pair: &[u8]) -> u16 {
     match (wide, pair) {
-        (Wide::Little, [low, high]) => u16::from_le_bytes([*low, *high]),
-        (Wide::Big, [high, low]) => u16::from_le_bytes([*low, *high]),
+        (Utf16Order::Little, [low, high]) => u16::from_le_bytes([*low, *high]),
+        (Utf16Order::Big, [high, low]) => u16::from_le_bytes([*low, *high]),
         _ => 0x3f,
     }
 }

@@ -1,14 +1,14 @@
 //! The lines after the rates.
 
-use crate::cursor::Cursor;
+use crate::cursor::TextCursor;
 use crate::dates::Order;
 use crate::draft::Revision;
 use crate::fault::{ImportFault, Why};
-use crate::field::Parts;
+use crate::field::LineFields;
 use crate::instants::{Instants, instants_of};
 use crate::key::Key;
 use crate::kinds::{Form, form_of};
-use crate::lines::{Reader, at, decimal_or, next_row};
+use crate::lines::{LineReader, at, decimal_or, next_row};
 use crate::note::Place;
 use crate::zone::zone_of;
 use comtrade_values::{Decimal, trim};
@@ -16,31 +16,31 @@ use std::alloc::Allocator;
 
 /// What was found in place of the data type.
 #[derive(Clone, Copy)]
-enum Next {
+enum TypeLine {
     Form(Form),
     Number,
     Nothing,
     Other,
 }
 
-fn look_at(cursor: Cursor<'_>, mark: u8) -> Next {
+fn look_at(cursor: TextCursor<'_>, mark: u8) -> TypeLine {
     let mut ahead = cursor;
     let Some(line) = ahead.next_line() else {
-        return Next::Nothing;
+        return TypeLine::Nothing;
     };
-    let text = Parts::of(line.text, mark).at(0);
+    let text = LineFields::of(line.text, mark).at(0);
     match form_of(text) {
-        Some(form) => Next::Form(form),
-        None if text.is_empty() => Next::Nothing,
-        None if Decimal::read(text).is_some() => Next::Number,
-        None => Next::Other,
+        Some(form) => TypeLine::Form(form),
+        None if text.is_empty() => TypeLine::Nothing,
+        None if Decimal::read(text).is_some() => TypeLine::Number,
+        None => TypeLine::Other,
     }
 }
 
 /// Skips a line that holds no data type.
-fn pass(cursor: &mut Cursor<'_>, next: Next) {
+fn pass(cursor: &mut TextCursor<'_>, next: TypeLine) {
     match next {
-        Next::Nothing => {
+        TypeLine::Nothing => {
             let _ = cursor.next_line();
         }
         _ => cursor.skip_blanks(),
@@ -49,7 +49,7 @@ fn pass(cursor: &mut Cursor<'_>, next: Next) {
 
 /// The form, from a line that must have no other field.
 fn said_form<A: Allocator + Copy>(
-    reader: &mut Reader<'_, '_, A>,
+    reader: &mut LineReader<'_, '_, A>,
     form: Form,
 ) -> Result<Option<Form>, ImportFault> {
     let row = next_row(&mut reader.cursor, reader.mark, reader.notes, 1)?;
@@ -62,14 +62,14 @@ fn said_form<A: Allocator + Copy>(
 
 /// The form of the data; None if no line declares it.
 fn type_of<A: Allocator + Copy>(
-    reader: &mut Reader<'_, '_, A>,
+    reader: &mut LineReader<'_, '_, A>,
 ) -> Result<Option<Form>, ImportFault> {
     let mut ahead = reader.cursor;
     let number = ahead.next_number();
     let next = look_at(ahead, reader.mark);
     match next {
-        Next::Form(form) => return said_form(reader, form),
-        Next::Other => return Err(at(number, Why::Kind)),
+        TypeLine::Form(form) => return said_form(reader, form),
+        TypeLine::Other => return Err(at(number, Why::Kind)),
         _ => {}
     }
     pass(&mut ahead, next);
@@ -80,13 +80,13 @@ fn type_of<A: Allocator + Copy>(
 
 /// The time multiplier: 1 if no line has it.
 fn timemult_of<A: Allocator + Copy>(
-    reader: &mut Reader<'_, '_, A>,
+    reader: &mut LineReader<'_, '_, A>,
     revision: Revision,
 ) -> Result<Decimal, ImportFault> {
     let mut ahead = reader.cursor;
     let number = reader.cursor.next_number();
     let is_there = match ahead.next_line() {
-        Some(line) => Parts::of(line.text, reader.mark).full < 2,
+        Some(line) => LineFields::of(line.text, reader.mark).full < 2,
         None => false,
     };
     if is_there {
@@ -109,13 +109,13 @@ fn timemult_of<A: Allocator + Copy>(
 }
 
 /// Reads time codes and time quality, for which 1999 has no lines; refuses any other text.
-fn end_of<A: Allocator + Copy>(reader: &mut Reader<'_, '_, A>) -> Result<(), ImportFault> {
+fn end_of<A: Allocator + Copy>(reader: &mut LineReader<'_, '_, A>) -> Result<(), ImportFault> {
     for number in 0..2u8 {
         let mut ahead = reader.cursor;
         let Some(line) = ahead.next_line() else {
             return Ok(());
         };
-        let parts = Parts::of(line.text, reader.mark);
+        let parts = LineFields::of(line.text, reader.mark);
         if 2 < parts.full || 10 < parts.at(0).len() || 10 < parts.at(1).len() {
             return Err(at(line.number, Why::Extra));
         }
@@ -137,22 +137,22 @@ fn end_of<A: Allocator + Copy>(reader: &mut Reader<'_, '_, A>) -> Result<(), Imp
 
 /// The contents of the lines after the rates.
 #[derive(Clone, Copy)]
-pub(crate) struct Ending {
+pub(crate) struct LastLines {
     pub instants: Instants,
     pub form: Option<Form>,
     pub timemult: Decimal,
 }
 
 pub(crate) fn ending_of<A: Allocator + Copy>(
-    reader: &mut Reader<'_, '_, A>,
+    reader: &mut LineReader<'_, '_, A>,
     revision: Revision,
     asked: Option<Order>,
-) -> Result<Ending, ImportFault> {
+) -> Result<LastLines, ImportFault> {
     let instants = instants_of(reader, revision, asked)?;
     let form = type_of(reader)?;
     let timemult = timemult_of(reader, revision)?;
     end_of(reader)?;
-    Ok(Ending {
+    Ok(LastLines {
         instants,
         form,
         timemult,

@@ -81,7 +81,7 @@ impl<'a> Fields<'a> {
 
 /// All fields of a line.
 #[derive(Clone, Copy)]
-pub(crate) struct Parts<'a> {
+pub(crate) struct LineFields<'a> {
     line: &'a [u8],
     mark: u8,
     /// The number of fields, including empty ones at the end.
@@ -95,8 +95,8 @@ pub(crate) struct Parts<'a> {
 /// The most fields that are counted.
 const MOST: usize = 64;
 
-impl<'a> Parts<'a> {
-    pub(crate) fn of(line: &'a [u8], mark: u8) -> Parts<'a> {
+impl<'a> LineFields<'a> {
+    pub(crate) fn of(line: &'a [u8], mark: u8) -> LineFields<'a> {
         let mut fields = Fields::of(line, mark);
         let mut all = 0usize;
         let mut full = 0usize;
@@ -115,7 +115,7 @@ impl<'a> Parts<'a> {
                 full = MOST;
             }
         }
-        Parts {
+        LineFields {
             line,
             mark,
             all,
@@ -126,8 +126,8 @@ impl<'a> Parts<'a> {
 
     /// The same fields, but this one and the next form one text with a separator in it. None if no
     /// field has a text.
-    pub(crate) fn joined(&self, joint: usize) -> Option<Parts<'a>> {
-        Some(Parts {
+    pub(crate) fn joined(&self, joint: usize) -> Option<LineFields<'a>> {
+        Some(LineFields {
             line: self.line,
             mark: self.mark,
             all: self.all.checked_sub(1)?,
@@ -191,7 +191,7 @@ impl<'a> Parts<'a> {
 /// Which of two joints is meant: the only possible one, else the only one with a blank after
 /// its separator.
 pub(crate) fn joint_of(
-    parts: &Parts<'_>,
+    parts: &LineFields<'_>,
     first: (usize, bool),
     second: (usize, bool),
 ) -> Option<usize> {

@@ -2,22 +2,22 @@
 //! restores them.
 
 use crate::num::{Num, exact_of, ten_to};
-use crate::scale::Scale;
-use crate::span::{Bounds, Span};
+use crate::scale::DecimalScale;
+use crate::span::{SampleSpan, WholeBounds};
 use crate::steps::{Steps, exact_steps_of, long_steps_of, steps_of};
 use comtrade_values::Exact;
 
 /// How the samples of a channel become whole numbers.
 #[derive(Clone, Copy)]
-pub(crate) enum Fit {
+pub(crate) enum SampleFit {
     /// They stay unchanged.
     Same,
     /// This number is subtracted.
     Shift(i32),
     /// They are multiplied by a power of ten.
-    Tens(Scale),
+    Tens(DecimalScale),
     /// The same, and some have more bits than a file of 1999 holds.
-    LongTens(Scale),
+    LongTens(DecimalScale),
     /// They are whole numbers of steps on both sides of the middle.
     Exact(Steps),
     /// They are rounded to steps on both sides of the middle.
@@ -27,27 +27,27 @@ pub(crate) enum Fit {
 }
 
 /// The whole numbers of 32 bits but the least one, which marks a missing value in BINARY32 data.
-const LONG: Bounds = Bounds {
+const LONG: WholeBounds = WholeBounds {
     low: -2_147_483_647,
     high: 2_147_483_647,
 };
 
 /// The power of ten that turns all samples into whole numbers within the bounds.
-fn tens_of(span: &Span, bounds: Bounds) -> Option<Scale> {
+fn tens_of(span: &SampleSpan, bounds: WholeBounds) -> Option<DecimalScale> {
     if span.need < -40 || 30 < span.need {
         return None;
     }
     let part = ten_to(span.scale.shift.checked_sub(span.need)?)?;
     let (low, high) = span.reach.ends()?;
     if bounds.low <= low.checked_div(part)? && high.checked_div(part)? <= bounds.high {
-        Some(Scale::new(span.need))
+        Some(DecimalScale::new(span.need))
     } else {
         None
     }
 }
 
 /// The value of samples that are all the same, if it can be held exactly.
-fn flat_of(span: &Span) -> Option<Exact> {
+fn flat_of(span: &SampleSpan) -> Option<Exact> {
     let (low, high) = span.reach.ends()?;
     if low != high {
         return None;
@@ -62,7 +62,7 @@ fn flat_of(span: &Span) -> Option<Exact> {
 }
 
 /// The shift that turns unsigned samples into signed ones.
-fn shift_of(span: &Span) -> Option<i32> {
+fn shift_of(span: &SampleSpan) -> Option<i32> {
     let part = ten_to(span.scale.shift)?;
     let (low, high) = span.reach.ends()?;
     if 1 <= low.checked_div(part)? {
@@ -77,94 +77,100 @@ fn shift_of(span: &Span) -> Option<i32> {
 
 /// How the samples of a channel become whole numbers; None if they are too large. `is_unsigned` if
 /// they have no sign.
-pub(crate) fn fit_of(span: &Span, bounds: Bounds, is_unsigned: bool) -> Option<Fit> {
+pub(crate) fn fit_of(
+    span: &SampleSpan,
+    bounds: WholeBounds,
+    is_unsigned: bool,
+) -> Option<SampleFit> {
     if span.fits {
-        return Some(Fit::Same);
+        return Some(SampleFit::Same);
     }
     if is_unsigned {
         if let Some(shift) = shift_of(span) {
-            return Some(Fit::Shift(shift));
+            return Some(SampleFit::Shift(shift));
         }
     }
     if let Some(value) = flat_of(span) {
-        return Some(Fit::Flat(value));
+        return Some(SampleFit::Flat(value));
     }
     if let Some(scale) = tens_of(span, bounds) {
-        return Some(Fit::Tens(scale));
+        return Some(SampleFit::Tens(scale));
     }
     match exact_steps_of(span) {
-        Some(steps) => Some(Fit::Exact(steps)),
-        None => Some(Fit::Steps(steps_of(span)?)),
+        Some(steps) => Some(SampleFit::Exact(steps)),
+        None => Some(SampleFit::Steps(steps_of(span)?)),
     }
 }
 
 /// How the samples of a channel become whole numbers of 32 bits; None if they are too large.
-pub(crate) fn long_fit_of(span: &Span) -> Option<Fit> {
+pub(crate) fn long_fit_of(span: &SampleSpan) -> Option<SampleFit> {
     if span.is_whole && LONG.low <= span.least && span.most <= LONG.high {
-        return Some(Fit::Same);
+        return Some(SampleFit::Same);
     }
     if let Some(value) = flat_of(span) {
-        return Some(Fit::Flat(value));
+        return Some(SampleFit::Flat(value));
     }
     if let Some(scale) = tens_of(span, LONG) {
-        return Some(Fit::LongTens(scale));
+        return Some(SampleFit::LongTens(scale));
     }
     let (steps, is_exact) = long_steps_of(span)?;
     Some(if is_exact {
-        Fit::Exact(steps)
+        SampleFit::Exact(steps)
     } else {
-        Fit::Steps(steps)
+        SampleFit::Steps(steps)
     })
 }
 
-impl Fit {
+impl SampleFit {
     /// The whole number that a sample becomes, and the error in the scale's unit; None for a
     /// sample beyond those that it was chosen for.
     pub(crate) fn whole_of(&self, num: Num) -> Option<(i64, i64)> {
         match self {
-            Fit::Same => Some((num.whole()?, 0)),
-            Fit::Shift(by) => Some((num.whole()?.checked_sub(i64::from(*by))?, 0)),
-            Fit::Tens(scale) | Fit::LongTens(scale) => Some((scale.nearest(num)?, 0)),
-            Fit::Exact(steps) | Fit::Steps(steps) => steps.nearest(steps.scale.nearest(num)?),
-            Fit::Flat(_) => Some((0, 0)),
+            SampleFit::Same => Some((num.whole()?, 0)),
+            SampleFit::Shift(by) => Some((num.whole()?.checked_sub(i64::from(*by))?, 0)),
+            SampleFit::Tens(scale) | SampleFit::LongTens(scale) => Some((scale.nearest(num)?, 0)),
+            SampleFit::Exact(steps) | SampleFit::Steps(steps) => steps.nearest(
+                steps.scale.nearest(num)?,
+            ),
+            SampleFit::Flat(_) => Some((0, 0)),
         }
     }
 
     /// The same for a float, if the short way (steps, in 64 bits) is possible.
     pub(crate) fn whole_of_float(&self, bits: u32) -> Option<(i64, i64)> {
         match self {
-            Fit::Exact(steps) | Fit::Steps(steps) => steps.of_float(bits),
+            SampleFit::Exact(steps) | SampleFit::Steps(steps) => steps.of_float(bits),
             _ => None,
         }
     }
 
     pub(crate) fn is_rounded(&self) -> bool {
-        matches!(self, Fit::Steps(_))
+        matches!(self, SampleFit::Steps(_))
     }
 
     pub(crate) fn is_same(&self) -> bool {
-        matches!(self, Fit::Same)
+        matches!(self, SampleFit::Same)
     }
 
     /// The multiplier and the offset that restore the values.
     pub(crate) fn scaled(&self, a: Exact, b: Exact) -> Option<(Exact, Exact)> {
         match self {
-            Fit::Same => Some((a, b)),
-            Fit::Shift(by) => Some((
+            SampleFit::Same => Some((a, b)),
+            SampleFit::Shift(by) => Some((
                 a,
                 b.plus(a.times(Exact {
                     units: i128::from(*by),
                     places: 0,
                 })?)?,
             )),
-            Fit::Tens(scale) | Fit::LongTens(scale) => Some((
+            SampleFit::Tens(scale) | SampleFit::LongTens(scale) => Some((
                 Exact {
                     units: a.units,
                     places: a.places.checked_add(scale.shift)?,
                 },
                 b,
             )),
-            Fit::Exact(steps) | Fit::Steps(steps) => {
+            SampleFit::Exact(steps) | SampleFit::Steps(steps) => {
                 let places = steps.scale.shift;
                 let unit = Exact {
                     units: i128::from(steps.unit),
@@ -179,7 +185,7 @@ impl Fit {
                     b.plus(a.short().times(middle.short())?)?,
                 ))
             }
-            Fit::Flat(value) => Some((a, b.plus(a.short().times(value.short())?)?)),
+            SampleFit::Flat(value) => Some((a, b.plus(a.short().times(value.short())?)?)),
         }
     }
 }

@@ -1,7 +1,7 @@
 //! Summarises the floats of a channel. The bits alone show that most samples change nothing.
 
 use crate::num::num_of_float;
-use crate::span::{Bounds, Span};
+use crate::span::{SampleSpan, WholeBounds};
 use std::alloc::{AllocError, Allocator};
 
 /// A summary of the floats of a channel so far.
@@ -13,7 +13,7 @@ pub(crate) struct FloatSpan {
     /// All are multiples of 2^step; the greatest such number while a power of ten may divide
     /// them all.
     step: i64,
-    span: Span,
+    span: SampleSpan,
 }
 
 /// A number that compares as the floats do: the bits without the sign, negated if the sign is set.
@@ -43,13 +43,13 @@ impl FloatSpan {
             least: i32::MAX,
             most: i32::MIN,
             step: i64::MAX,
-            span: Span::new(),
+            span: SampleSpan::new(),
         }
     }
 
     /// Adds a sample. One between the others that is a multiple of the same power of two
     /// changes nothing.
-    pub(crate) fn add(&mut self, bits: u32, bounds: Bounds) {
+    pub(crate) fn add(&mut self, bits: u32, bounds: WholeBounds) {
         let place = place_of(bits);
         if self.least <= place && place <= self.most && self.step <= step_of(bits) {
             return;
@@ -66,7 +66,7 @@ impl FloatSpan {
     }
 
     /// The summary of the samples.
-    pub(crate) fn settled(&self) -> Span {
+    pub(crate) fn settled(&self) -> SampleSpan {
         let mut span = self.span;
         span.settle();
         span

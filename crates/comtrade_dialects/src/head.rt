@@ -2,15 +2,15 @@
 
 use crate::analog::analog_of;
 use crate::counts::counts_of;
-use crate::cursor::Cursor;
+use crate::cursor::TextCursor;
 use crate::dates::Order;
-use crate::draft::{Channels, Draft, Names, Revision};
+use crate::draft::{ChannelLines, ConfigDraft, NamesLine, Revision};
 use crate::ending::ending_of;
 use crate::fault::{ImportFault, Why};
-use crate::field::{Parts, joint_of};
+use crate::field::{LineFields, joint_of};
 use crate::ids::Ids;
 use crate::key::Key;
-use crate::lines::{Reader, Row, at, decimal_or, next_row, text_of};
+use crate::lines::{FieldRow, LineReader, at, decimal_or, next_row, text_of};
 use crate::note::{Notes, Place};
 use crate::rates::rates_of;
 use crate::status::status_of;
@@ -38,7 +38,7 @@ fn is_other_year(text: &[u8]) -> bool {
     }
 }
 
-fn year_of(row: Row<'_>) -> Result<Year<'_>, ImportFault> {
+fn year_of(row: FieldRow<'_>) -> Result<Year<'_>, ImportFault> {
     if 3 < row.parts.full || row.parts.all < 2 {
         return Err(at(row.number, Why::FirstLine));
     }
@@ -53,7 +53,7 @@ fn year_of(row: Row<'_>) -> Result<Year<'_>, ImportFault> {
 }
 
 /// The separator between fields: a comma, or a semicolon if the first line has no comma.
-fn mark_of(cursor: Cursor<'_>) -> u8 {
+fn mark_of(cursor: TextCursor<'_>) -> u8 {
     let mut ahead = cursor;
     match ahead.next_line() {
         Some(line) if !line.text.contains(&b',') && line.text.contains(&b';') => b';',
@@ -63,7 +63,7 @@ fn mark_of(cursor: Cursor<'_>) -> u8 {
 
 /// The revision: from the year, else from the number of fields in the line of the first channel.
 fn revision_of<A: Allocator + Copy>(
-    reader: &mut Reader<'_, '_, A>,
+    reader: &mut LineReader<'_, '_, A>,
     year: Year<'_>,
     line: u64,
     has_analog: bool,
@@ -78,7 +78,7 @@ fn revision_of<A: Allocator + Copy>(
         Year::Absent => {
             let mut ahead = reader.cursor;
             let full = match ahead.next_line() {
-                Some(line) => Parts::of(line.text, reader.mark).full,
+                Some(line) => LineFields::of(line.text, reader.mark).full,
                 None => 0,
             };
             if full <= if has_analog { 10 } else { 3 } {
@@ -99,11 +99,11 @@ fn revision_of<A: Allocator + Copy>(
 
 /// The lines of channels.
 fn channels_of<A: Allocator + Copy>(
-    reader: &mut Reader<'_, '_, A>,
+    reader: &mut LineReader<'_, '_, A>,
     counts: (u64, u64),
     is_old: bool,
-) -> Result<Channels<A>, ImportFault> {
-    let mut channels = Channels {
+) -> Result<ChannelLines<A>, ImportFault> {
+    let mut channels = ChannelLines {
         analog: Vec::new(reader.alloc),
         said: Vec::new(reader.alloc),
         status: Vec::new(reader.alloc),
@@ -132,7 +132,7 @@ fn channels_of<A: Allocator + Copy>(
 }
 
 fn frequency_of<A: Allocator + Copy>(
-    reader: &mut Reader<'_, '_, A>,
+    reader: &mut LineReader<'_, '_, A>,
 ) -> Result<Decimal, ImportFault> {
     let row = next_row(&mut reader.cursor, reader.mark, reader.notes, 1)?;
     if 1 < row.parts.full {
@@ -149,8 +149,8 @@ fn frequency_of<A: Allocator + Copy>(
 
 /// The names in the first line, with the year and the number of the line.
 fn names_of<'a, A: Allocator + Copy>(
-    reader: &mut Reader<'a, '_, A>,
-) -> Result<(Names<A>, Year<'a>, u64), ImportFault> {
+    reader: &mut LineReader<'a, '_, A>,
+) -> Result<(NamesLine<A>, Year<'a>, u64), ImportFault> {
     let mut row = next_row(&mut reader.cursor, reader.mark, reader.notes, 3)?;
     if row.parts.full == 4
         && let Some(joint) = joint_of(&row.parts, (0, true), (1, true))
@@ -161,16 +161,16 @@ fn names_of<'a, A: Allocator + Copy>(
     let year = year_of(row)?;
     let station = text_of(reader.notes, row.number, row.parts.at(0), 64, None)?;
     let device = text_of(reader.notes, row.number, row.parts.at(1), 64, None)?;
-    Ok((Names { station, device }, year, row.number))
+    Ok((NamesLine { station, device }, year, row.number))
 }
 
 /// Reads the lines after the first, in a file with these names.
 fn draft_after<A: Allocator + Copy>(
-    reader: &mut Reader<'_, '_, A>,
-    names: Names<A>,
+    reader: &mut LineReader<'_, '_, A>,
+    names: NamesLine<A>,
     first: (Year<'_>, u64, u64),
     asked: Option<Order>,
-) -> Result<Draft<A>, ImportFault> {
+) -> Result<ConfigDraft<A>, ImportFault> {
     let (year, line, bytes) = first;
     let counts = counts_of(reader, bytes)?;
     let revision = revision_of(reader, year, line, 0 < counts.0)?;
@@ -178,7 +178,7 @@ fn draft_after<A: Allocator + Copy>(
     let line_freq = frequency_of(reader)?;
     let rates = rates_of(reader)?;
     let ending = ending_of(reader, revision, asked)?;
-    Ok(Draft {
+    Ok(ConfigDraft {
         names,
         channels,
         line_freq,
@@ -194,10 +194,10 @@ fn draft_after<A: Allocator + Copy>(
 
 /// Reads the lines of a configuration file of this many bytes.
 fn draft_in<A: Allocator + Copy>(
-    reader: &mut Reader<'_, '_, A>,
+    reader: &mut LineReader<'_, '_, A>,
     bytes: u64,
     asked: Option<Order>,
-) -> Result<Draft<A>, ImportFault> {
+) -> Result<ConfigDraft<A>, ImportFault> {
     let (names, year, line) = names_of(reader)?;
     draft_after(reader, names, (year, line, bytes), asked)
 }
@@ -208,8 +208,8 @@ pub(crate) fn draft_of<A: Allocator + Copy>(
     notes: &mut Notes<A>,
     cfg: &[u8],
     asked: Option<Order>,
-) -> Result<Draft<A>, ImportFault> {
-    let cursor = Cursor::new(cfg);
+) -> Result<ConfigDraft<A>, ImportFault> {
+    let cursor = TextCursor::new(cfg);
     let mark = mark_of(cursor);
     let mut ahead = cursor;
     if ahead.next_line().is_none() {
@@ -225,7 +225,7 @@ pub(crate) fn draft_of<A: Allocator + Copy>(
             &[],
         )?;
     }
-    let mut reader = Reader {
+    let mut reader = LineReader {
         alloc,
         cursor,
         mark,

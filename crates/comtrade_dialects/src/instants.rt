@@ -4,9 +4,9 @@ use crate::dates::{Order, instant_of};
 use crate::draft::Revision;
 use crate::fault::{ImportFault, Why};
 use crate::key::Key;
-use crate::lines::{Reader, at};
+use crate::lines::{LineReader, at};
 use crate::note::{Notes, Place};
-use crate::said_instant::{Said, said_of};
+use crate::said_instant::{InstantLine, said_of};
 use comtrade_values::has_date;
 use std::alloc::Allocator;
 
@@ -25,7 +25,7 @@ fn other_of(order: Order) -> Order {
     }
 }
 
-fn both_fit(said: (Said, Said), order: Order) -> bool {
+fn both_fit(said: (InstantLine, InstantLine), order: Order) -> bool {
     said.0.fits(order) && said.1.fits(order)
 }
 
@@ -33,7 +33,7 @@ fn both_fit(said: (Said, Said), order: Order) -> bool {
 /// only the other gives valid dates.
 fn order_of<A: Allocator + Copy>(
     notes: &mut Notes<A>,
-    said: (Said, Said),
+    said: (InstantLine, InstantLine),
     revision: Revision,
     asked: Option<Order>,
 ) -> Result<Order, ImportFault> {
@@ -75,7 +75,7 @@ fn order_of<A: Allocator + Copy>(
 }
 
 /// The time in a line, if a date is set.
-fn time_of(said: Said, order: Order) -> Result<Option<i64>, ImportFault> {
+fn time_of(said: InstantLine, order: Order) -> Result<Option<i64>, ImportFault> {
     let Some(date) = said.date() else {
         return Ok(None);
     };
@@ -91,8 +91,8 @@ fn time_of(said: Said, order: Order) -> Result<Option<i64>, ImportFault> {
 /// The times in both lines, read in one order.
 fn settled<A: Allocator + Copy>(
     notes: &mut Notes<A>,
-    first: Said,
-    trigger: Said,
+    first: InstantLine,
+    trigger: InstantLine,
     order: Order,
 ) -> Result<Instants, ImportFault> {
     let has_nanos = first.is_long() || trigger.is_long();
@@ -126,7 +126,7 @@ fn settled<A: Allocator + Copy>(
 
 /// The times of the first row and of the trigger.
 pub(crate) fn instants_of<A: Allocator + Copy>(
-    reader: &mut Reader<'_, '_, A>,
+    reader: &mut LineReader<'_, '_, A>,
     revision: Revision,
     asked: Option<Order>,
 ) -> Result<Instants, ImportFault> {

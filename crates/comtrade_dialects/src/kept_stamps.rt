@@ -7,7 +7,7 @@ use crate::nearest::rounded;
 use crate::note::Notes;
 use crate::num::Num;
 use crate::numbers::Tick;
-use crate::stamps::Track;
+use crate::stamps::StampTrack;
 use comtrade_values::{Decimal, put, put_number};
 use std::alloc::Allocator;
 
@@ -15,7 +15,7 @@ use std::alloc::Allocator;
 /// the form.
 pub(crate) fn stamps_by_rate<A: Allocator + Copy>(
     alloc: A,
-    track: &Track<'_>,
+    track: &StampTrack<'_>,
     clock: &Clock<A>,
 ) -> Result<Vec<Option<u64>, A>, ImportFault> {
     let mut list = Vec::new(alloc);
@@ -53,7 +53,7 @@ pub(crate) fn time_of_tick(tick: &Tick, timemult: Decimal) -> Option<i128> {
 
 /// The time of a tick since the start, divided by so much, if it has one.
 pub(crate) fn time_since(
-    track: &Track<'_>,
+    track: &StampTrack<'_>,
     tick: &Tick,
     start: Option<i128>,
     part: i128,
@@ -63,7 +63,7 @@ pub(crate) fn time_since(
 }
 
 /// The time from which stamps are counted: that of the least stamp.
-pub(crate) fn start_of(track: &Track<'_>) -> Option<i128> {
+pub(crate) fn start_of(track: &StampTrack<'_>) -> Option<i128> {
     let mut start: Option<i128> = None;
     for tick in track.ticks {
         if let Some(time) = time_of_tick(tick, track.timemult) {
@@ -75,7 +75,7 @@ pub(crate) fn start_of(track: &Track<'_>) -> Option<i128> {
 
 /// The unit of whole stamps in picoseconds; a microsecond if stamps with a point would lose more,
 /// or if the unit is below a picosecond or beyond 128 bits.
-fn unit_of(track: &Track<'_>, one: Decimal) -> (i128, Decimal) {
+fn unit_of(track: &StampTrack<'_>, one: Decimal) -> (i128, Decimal) {
     match time_of_stamp(Num::of(1), track.timemult) {
         Some(unit) if 1 <= unit && (!track.is_pointed || unit <= 1_000_000) => {
             (unit, track.timemult)
@@ -96,7 +96,7 @@ fn kept_stamp(
 }
 
 /// Whether the form of the data can hold all stamps, counted from the start in steps.
-fn all_fit(track: &Track<'_>, start: Option<i128>, step: Option<i128>) -> bool {
+fn all_fit(track: &StampTrack<'_>, start: Option<i128>, step: Option<i128>) -> bool {
     for tick in track.ticks {
         if let Some(stamp) = tick.stamp
             && kept_stamp((track.timemult, track.most), stamp, start, step).is_none()
@@ -110,7 +110,7 @@ fn all_fit(track: &Track<'_>, start: Option<i128>, step: Option<i128>) -> bool {
 /// The unit and the time multiplier by which the form of the data can hold all stamps, and how many
 /// times as long as the given unit it is: the least power of ten. None if there is none.
 fn fitting(
-    track: &Track<'_>,
+    track: &StampTrack<'_>,
     (start, part): (Option<i128>, i128),
     unit: i128,
     timemult: Decimal,
@@ -131,7 +131,7 @@ fn fitting(
 /// the data cannot hold; where they are written, the unit is longer than that of the file.
 fn told_unit<A: Allocator + Copy>(
     notes: &mut Notes<A>,
-    track: &Track<'_>,
+    track: &StampTrack<'_>,
     (start, part): (Option<i128>, i128),
     unit: i128,
     timemult: Decimal,
@@ -161,7 +161,7 @@ fn told_unit<A: Allocator + Copy>(
 pub(crate) fn kept<A: Allocator + Copy>(
     alloc: A,
     notes: &mut Notes<A>,
-    track: &Track<'_>,
+    track: &StampTrack<'_>,
     part: i128,
 ) -> Result<(Vec<Option<u64>, A>, Decimal), ImportFault> {
     let start = start_of(track);

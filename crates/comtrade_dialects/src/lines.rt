@@ -1,8 +1,8 @@
 //! Reads what all lines of a configuration file have in common.
 
-use crate::cursor::{Cursor, Line};
+use crate::cursor::{TextCursor, TextLine};
 use crate::fault::{ImportFault, Why};
-use crate::field::Parts;
+use crate::field::LineFields;
 use crate::key::Key;
 use crate::note::{Notes, Place};
 use crate::numeral::spelled_of;
@@ -13,17 +13,17 @@ use std::alloc::{AllocError, Allocator};
 
 /// The remaining lines, the separator between their fields, and the notes so far.
 #[derive(Drop)]
-pub(crate) struct Reader<'a, 'n, A: Allocator> {
+pub(crate) struct LineReader<'a, 'n, A: Allocator> {
     pub alloc: A,
-    pub cursor: Cursor<'a>,
+    pub cursor: TextCursor<'a>,
     pub mark: u8,
     pub notes: &'n mut Notes<A>,
 }
 
 /// A line's fields, and its number.
 #[derive(Clone, Copy)]
-pub(crate) struct Row<'a> {
-    pub parts: Parts<'a>,
+pub(crate) struct FieldRow<'a> {
+    pub parts: LineFields<'a>,
     pub text: &'a [u8],
     pub number: u64,
 }
@@ -35,7 +35,7 @@ pub(crate) fn at(line: u64, why: Why) -> ImportFault {
 /// Notes the oddities of a line as a whole.
 pub(crate) fn tell_line<A: Allocator + Copy>(
     notes: &mut Notes<A>,
-    line: Line<'_>,
+    line: TextLine<'_>,
     place: Place,
 ) -> Result<(), AllocError> {
     if line.after_blank {
@@ -49,21 +49,21 @@ pub(crate) fn tell_line<A: Allocator + Copy>(
 
 /// The next line. Notes its oddities, such as empty fields at its end beyond `wanted`.
 pub(crate) fn next_row<'a, A: Allocator + Copy>(
-    cursor: &mut Cursor<'a>,
+    cursor: &mut TextCursor<'a>,
     mark: u8,
     notes: &mut Notes<A>,
     wanted: usize,
-) -> Result<Row<'a>, ImportFault> {
+) -> Result<FieldRow<'a>, ImportFault> {
     let missing = cursor.next_number();
     let Some(line) = cursor.next_line() else {
         return Err(at(missing, Why::Missing));
     };
     tell_line(notes, line, Place::Cfg(line.number))?;
-    let parts = Parts::of(line.text, mark);
+    let parts = LineFields::of(line.text, mark);
     if wanted < parts.all && parts.full <= wanted {
         notes.tell(Key::TrailingCommas, Place::Cfg(line.number), &[])?;
     }
-    Ok(Row {
+    Ok(FieldRow {
         parts,
         text: line.text,
         number: line.number,

@@ -6,7 +6,7 @@ use crate::row::Packed;
 
 /// What data prove about a form.
 #[derive(Clone, Copy)]
-pub(crate) struct Look<'a> {
+pub(crate) struct FormEvidence<'a> {
     pub packed: Packed<'a>,
     /// The data are whole rows.
     pub is_whole: bool,
@@ -33,7 +33,7 @@ fn runs(packed: Packed<'_>) -> bool {
 
 /// What data prove about a form whose rows have this size, at least 8 bytes for a number and a
 /// stamp.
-pub(crate) fn look_at(dat: &[u8], form: Form, size: usize, is_big: bool) -> Look<'_> {
+pub(crate) fn look_at(dat: &[u8], form: Form, size: usize, is_big: bool) -> FormEvidence<'_> {
     let size = size.max(8);
     let (whole, rest) = dat.split_at(dat.len() - dat.len() % size);
     let has_mark = rest == b"\x1a".as_slice();
@@ -43,7 +43,7 @@ pub(crate) fn look_at(dat: &[u8], form: Form, size: usize, is_big: bool) -> Look
         is_big,
         size,
     };
-    Look {
+    FormEvidence {
         packed,
         is_whole: !whole.is_empty() && (rest.is_empty() || has_mark),
         has_mark,
@@ -51,7 +51,7 @@ pub(crate) fn look_at(dat: &[u8], form: Form, size: usize, is_big: bool) -> Look
     }
 }
 
-impl Look<'_> {
+impl FormEvidence<'_> {
     pub(crate) fn is_proved(&self) -> bool {
         self.is_whole && self.runs
     }

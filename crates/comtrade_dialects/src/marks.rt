@@ -1,10 +1,10 @@
 //! In which channels 99,999 marks a missing value.
 
-use crate::cursor::Cursor;
+use crate::cursor::TextCursor;
 use crate::draft::Revision;
 use crate::field::Fields;
 use crate::numeral::spelled_of;
-use crate::row::{Counts, Plan};
+use crate::row::{RowCounts, RowsPlan};
 use memchr::memchr;
 use std::alloc::{AllocError, Allocator};
 
@@ -41,7 +41,7 @@ fn is_pointed(text: &[u8], mark: u8) -> bool {
 
 /// Unsets the channels that have a sample with a point or an exponent.
 fn unset_pointed(marks: &mut [bool], text: &[u8], mark: u8) {
-    let mut cursor = Cursor::new(text);
+    let mut cursor = TextCursor::new(text);
     for _ in 0..u64::MAX {
         let Some(line) = cursor.next_line() else {
             return;
@@ -62,8 +62,8 @@ fn unset_pointed(marks: &mut [bool], text: &[u8], mark: u8) {
 /// in decimals and in files of 2013 it is a sample.
 pub(crate) fn marks_of<A: Allocator>(
     alloc: A,
-    plan: Plan<'_>,
-    counts: Counts,
+    plan: RowsPlan<'_>,
+    counts: RowCounts,
     revision: Revision,
 ) -> Result<Vec<bool, A>, AllocError> {
     let mut marks = Vec::new(alloc);
@@ -71,7 +71,7 @@ pub(crate) fn marks_of<A: Allocator>(
         marks.push(revision != Revision::Of2013)?;
     }
     match plan {
-        Plan::Text(text, mark) if may_have_points(text, mark) && has_nines(text) => {
+        RowsPlan::Text(text, mark) if may_have_points(text, mark) && has_nines(text) => {
             unset_pointed(&mut marks, text, mark);
         }
         _ => {}

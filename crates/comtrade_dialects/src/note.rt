@@ -1,12 +1,14 @@
 //! Notes on repairs: one for each key, in the order in which the files are read.
 
-ghost use Rattle.std.specs.Prelude.{◌≡◌, []};
+ghost use Rattle.std.specs.Prelude.{◌≡◌, [], OnOk};
+ghost use Rattle.comtrade_dialects.specs.Notes.{PutsText};
 
 use crate::key::Key;
-use crate::text::put_quoted;
+use crate::text::{push_quoted, push_shown};
 use crate::zone::Zone;
-use comtrade_values::{put, put_number};
+use comtrade_values::put;
 use std::alloc::{AllocError, Allocator, Global};
+use std::fmt::Write;
 use std::marker::Model;
 
 /// Where something is.
@@ -27,35 +29,27 @@ pub enum Place {
 pub struct Note<A: Allocator = Global> {
     key: Key,
     count: u64,
-    details: Vec<u8, A>,
+    details: String<A>,
 }
 
 impl<A: Allocator> Model for Note<A> {
+    ghost use Rattle.std.specs.String.{string_bytes};
     ghost use Rattle.comtrade_dialects.specs.Notes.{NoteParts};
 
     ghost Value = { NoteParts };
 
-    ghost view = { λ n. record { key = n.key; count = n.count; details = n.details.items } };
+    ghost view = { λ n. record { key = n.key; count = n.count; details = string_bytes n.details } };
 }
 
 /// The number of bytes of details that are kept.
 const DETAILS: usize = 2_000;
 
-fn put_place<A: Allocator>(out: &mut Vec<u8, A>, place: Place) -> Result<(), AllocError> {
+fn push_place<A: Allocator>(out: &mut String<A>, place: Place) -> Result<(), AllocError> {
     match place {
-        Place::Cfg(line) => {
-            put(out, "line ")?;
-            put_number(out, line)
-        }
-        Place::Row(row) => {
-            put(out, "row ")?;
-            put_number(out, row)
-        }
-        Place::Channel(n) => {
-            put(out, "channel ")?;
-            put_number(out, n)
-        }
-        Place::Whole(name) => put(out, name),
+        Place::Cfg(line) => write!(out, "line {line}"),
+        Place::Row(row) => write!(out, "row {row}"),
+        Place::Channel(n) => write!(out, "channel {n}"),
+        Place::Whole(name) => out.push_str(name),
     }
 }
 
@@ -78,10 +72,11 @@ impl<A: Allocator> Note<A> {
     pub fn details(&self) -> &[u8]
         ensures { result.now ≡ self.now.details }
     {
-        self.details.as_slice()
+        self.details.as_bytes()
     }
 
-    /// Adds the place and the piece to the details, if there is room.
+    /// Adds the place and the piece to the details, if there is room. The piece may have the bytes
+    /// of a file; what is not seen in them becomes `\xNN`.
     fn add(&mut self, place: Place, piece: &[u8]) -> Result<(), AllocError>
         ensures { self.new.key ≡ self.old.key }
     {
@@ -90,31 +85,36 @@ impl<A: Allocator> Note<A> {
             return Ok(());
         }
         if !self.details.is_empty() {
-            put(&mut self.details, "; ")?;
+            self.details.push_str("; ")?;
         }
-        put_place(&mut self.details, place)?;
+        push_place(&mut self.details, place)?;
         if piece.is_empty() {
             return Ok(());
         }
-        put(&mut self.details, ": ")?;
-        self.details.extend_from_slice(piece)
+        self.details.push_str(": ")?;
+        push_shown(&mut self.details, piece)
+    }
+
+    /// The note as a line without its end: `KEY: words (places)`.
+    fn line(&self, alloc: A) -> Result<String<A>, AllocError> {
+        let (name, words) = (self.key.name(), self.key.words());
+        let mut line = String::new(alloc);
+        write!(line, "{name}: {words} ({}", self.details.as_str())?;
+        if DETAILS < self.details.len() {
+            write!(line, "; ..; {} in all", self.count)?;
+        }
+        line.push_str(")")?;
+        Ok(line)
     }
 }
 
-impl<A: Allocator> Note<A> {
-    /// Appends the note as a line without its end: `KEY: words (places)`.
-    pub fn put_line(&self, out: &mut Vec<u8, A>) -> Result<(), AllocError> {
-        put(out, self.key.name())?;
-        put(out, ": ")?;
-        put(out, self.key.words())?;
-        put(out, " (")?;
-        out.extend_from_slice(self.details.as_slice())?;
-        if DETAILS < self.details.len() {
-            put(out, "; ..; ")?;
-            put_number(out, self.count)?;
-            put(out, " in all")?;
-        }
-        put(out, ")")
+impl<A: Allocator + Copy> Note<A> {
+    /// Appends the note as a line without its end: text, whatever bytes the files have.
+    pub fn put_line(&self, out: &mut Vec<u8, A>) -> Result<(), AllocError>
+        ensures { OnOk result (PutsText out.old.items out.new.items) }
+    {
+        let line = self.line(*out.allocator())?;
+        put(out, line.as_str())
     }
 }
 
@@ -202,7 +202,7 @@ impl<A: Allocator + Copy> Notes<A> {
         let mut note = Note {
             key,
             count: 0,
-            details: Vec::new(*self.list.allocator()),
+            details: String::new(*self.list.allocator()),
         };
         note.add(place, piece)?;
         self.list.push(note)?;
@@ -217,11 +217,11 @@ impl<A: Allocator + Copy> Notes<A> {
         text: &[u8],
         made: &[u8],
     ) -> Result<(), AllocError> {
-        let mut piece = Vec::new(*self.list.allocator());
-        put_quoted(&mut piece, text)?;
-        put(&mut piece, " became ")?;
-        put_quoted(&mut piece, made)?;
-        self.tell(key, place, &piece)
+        let mut piece = String::new(*self.list.allocator());
+        push_quoted(&mut piece, text)?;
+        piece.push_str(" became ")?;
+        push_quoted(&mut piece, made)?;
+        self.tell(key, place, piece.as_bytes())
     }
 
     /// Notes a repair of a text, which is quoted.
@@ -231,8 +231,8 @@ impl<A: Allocator + Copy> Notes<A> {
         place: Place,
         text: &[u8],
     ) -> Result<(), AllocError> {
-        let mut piece = Vec::new(*self.list.allocator());
-        put_quoted(&mut piece, text)?;
-        self.tell(key, place, &piece)
+        let mut piece = String::new(*self.list.allocator());
+        push_quoted(&mut piece, text)?;
+        self.tell(key, place, piece.as_bytes())
     }
 }

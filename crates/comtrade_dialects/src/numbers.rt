@@ -1,6 +1,6 @@
 //! The numbers of rows, and the rates for the rows that exist.
 
-use crate::draft::Draft;
+use crate::draft::ConfigDraft;
 use crate::fault::ImportFault;
 use crate::key::Key;
 use crate::note::{Notes, Place};
@@ -18,7 +18,7 @@ pub(crate) struct Tick {
 
 /// How row numbers continue.
 #[derive(Clone, Copy, PartialEq, Eq)]
-pub(crate) enum Run {
+pub(crate) enum Numbering {
     /// 1, 2, 3 and so on.
     Plain,
     /// Upwards, with gaps.
@@ -26,7 +26,7 @@ pub(crate) enum Run {
     Other,
 }
 
-pub(crate) fn run_of(ticks: &[Tick]) -> Run {
+pub(crate) fn run_of(ticks: &[Tick]) -> Numbering {
     let mut is_plain = true;
     let mut rises = true;
     let mut has_gap = false;
@@ -40,12 +40,12 @@ pub(crate) fn run_of(ticks: &[Tick]) -> Run {
         before = Some(tick.number);
     }
     if is_plain {
-        return Run::Plain;
+        return Numbering::Plain;
     }
     if rises && has_gap {
-        Run::Gaps
+        Numbering::Gaps
     } else {
-        Run::Other
+        Numbering::Other
     }
 }
 
@@ -124,7 +124,7 @@ fn tell_rows<A: Allocator + Copy>(
 pub(crate) fn rates_for<A: Allocator + Copy>(
     alloc: A,
     notes: &mut Notes<A>,
-    draft: &Draft<A>,
+    draft: &ConfigDraft<A>,
     rows: u64,
     is_told: bool,
 ) -> Result<Vec<Rate, A>, ImportFault> {

@@ -3,7 +3,7 @@
 use crate::fault::Why;
 use crate::kinds::Form;
 use crate::num::{Num, num_of_float};
-use crate::row::{Cells, Counts, Odd, Packed, Stop};
+use crate::row::{Cells, Odd, Packed, RowCounts, RowStop};
 use std::alloc::Allocator;
 
 /// A whole number of 32 bits without a sign.
@@ -98,11 +98,11 @@ fn signed_word(bits: u16) -> i64 {
 }
 
 /// A row that is shorter than its channels need.
-const SHORT: Stop = Stop::Why(Why::Length);
+const SHORT: RowStop = RowStop::Why(Why::Length);
 
 impl<A: Allocator> Cells<A> {
     /// Reads the status bits of a row, and records whether an unused bit is set.
-    fn read_bits(&mut self, bytes: &mut Bytes<'_>, m: usize) -> Result<(), Stop> {
+    fn read_bits(&mut self, bytes: &mut Bytes<'_>, m: usize) -> Result<(), RowStop> {
         let mut left = m;
         for _ in 0..m.div_ceil(16) {
             let Some(word) = bytes.next_word() else {
@@ -122,7 +122,7 @@ impl<A: Allocator> Cells<A> {
     }
 
     /// Reads the number and the stamp of a row, and clears values and bits.
-    fn read_front(&mut self, bytes: &mut Bytes<'_>) -> Result<(), Stop> {
+    fn read_front(&mut self, bytes: &mut Bytes<'_>) -> Result<(), RowStop> {
         self.values.clear();
         self.bits.clear();
         self.odd = Odd::default();
@@ -144,8 +144,8 @@ pub(crate) fn read_float_row<'a, A: Allocator>(
     cells: &mut Cells<A>,
     row: &'a [u8],
     packed: Packed<'_>,
-    counts: Counts,
-) -> Result<Bytes<'a>, Stop> {
+    counts: RowCounts,
+) -> Result<Bytes<'a>, RowStop> {
     let mut bytes = Bytes {
         left: row,
         is_big: packed.is_big,
@@ -164,9 +164,9 @@ pub(crate) fn read_packed<A: Allocator>(
     cells: &mut Cells<A>,
     row: &[u8],
     packed: Packed<'_>,
-    counts: Counts,
+    counts: RowCounts,
     unsigned: &[bool],
-) -> Result<(), Stop> {
+) -> Result<(), RowStop> {
     let mut bytes = Bytes {
         left: row,
         is_big: packed.is_big,

@@ -2,7 +2,7 @@
 
 use crate::build::file_of;
 use crate::dates::Order;
-use crate::draft::Draft;
+use crate::draft::ConfigDraft;
 use crate::encoding::{narrow, without_mark};
 use crate::fault::ImportFault;
 use crate::head::draft_of;
@@ -132,7 +132,7 @@ fn draft_in<A: Allocator + Copy>(
     notes: &mut Notes<A>,
     text: &[u8],
     choices: Choices,
-) -> Result<Draft<A>, ImportFault> {
+) -> Result<ConfigDraft<A>, ImportFault> {
     let text = before_end(notes, text)?;
     draft_of(alloc, notes, text, choices.dates)
 }
@@ -143,7 +143,7 @@ fn cfg_of<A: Allocator + Copy>(
     notes: &mut Notes<A>,
     cfg: &[u8],
     choices: Choices,
-) -> Result<Draft<A>, ImportFault> {
+) -> Result<ConfigDraft<A>, ImportFault> {
     let narrowed = narrow(alloc, cfg)?;
     if narrowed.is_none()
         && let Some(text) = turned(alloc, cfg, choices)?
@@ -158,7 +158,7 @@ fn cfg_of<A: Allocator + Copy>(
 fn file_of_text<A: Allocator + Copy>(
     alloc: A,
     notes: &mut Notes<A>,
-    draft: Draft<A>,
+    draft: ConfigDraft<A>,
     dat: &[u8],
     samples: Samples,
 ) -> Result<File<A>, ImportFault> {

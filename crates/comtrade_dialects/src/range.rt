@@ -1,6 +1,6 @@
 //! The range of samples in the line of an analogue channel.
 
-use crate::analog::Shape;
+use crate::analog::AnalogShape;
 use crate::draft::Range;
 use crate::fault::{ImportFault, Why};
 use crate::key::Key;
@@ -46,7 +46,7 @@ fn loose_bound(mark: u8, line: u64, text: &[u8]) -> Result<Option<i32>, ImportFa
 pub(crate) fn range_of<A: Allocator + Copy>(
     notes: &mut Notes<A>,
     mark: u8,
-    shape: Shape<'_>,
+    shape: AnalogShape<'_>,
 ) -> Result<(i32, i32, Range), ImportFault> {
     let (low, high) = (shape.parts.at(8), shape.parts.at(9));
     if low.is_empty() || high.is_empty() {

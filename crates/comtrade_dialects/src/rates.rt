@@ -1,12 +1,12 @@
 //! The lines of rates.
 
-use crate::cursor::Cursor;
+use crate::cursor::TextCursor;
 use crate::dates::is_like_instant;
 use crate::draft::Rates;
 use crate::fault::{ImportFault, Why};
-use crate::field::Parts;
+use crate::field::LineFields;
 use crate::key::Key;
-use crate::lines::{Reader, Row, at, decimal_of, decimal_or, next_row, tell_empty};
+use crate::lines::{FieldRow, LineReader, at, decimal_of, decimal_or, next_row, tell_empty};
 use crate::note::Place;
 use comtrade_format::Rate;
 use comtrade_values::{Decimal, integer_of, whole_of};
@@ -14,8 +14,8 @@ use std::alloc::Allocator;
 
 /// A whole number of at least 0.
 fn count_of<A: Allocator + Copy>(
-    reader: &mut Reader<'_, '_, A>,
-    row: Row<'_>,
+    reader: &mut LineReader<'_, '_, A>,
+    row: FieldRow<'_>,
     index: usize,
 ) -> Result<u64, ImportFault> {
     let text = row.parts.at(index);
@@ -33,7 +33,7 @@ fn count_of<A: Allocator + Copy>(
 }
 
 fn rate_count<A: Allocator + Copy>(
-    reader: &mut Reader<'_, '_, A>,
+    reader: &mut LineReader<'_, '_, A>,
 ) -> Result<(u64, u64), ImportFault> {
     let row = next_row(&mut reader.cursor, reader.mark, reader.notes, 1)?;
     if row.parts.at(0).is_empty() {
@@ -53,7 +53,7 @@ fn rate_count<A: Allocator + Copy>(
 
 /// A rate and its last row.
 fn rate_of<A: Allocator + Copy>(
-    reader: &mut Reader<'_, '_, A>,
+    reader: &mut LineReader<'_, '_, A>,
 ) -> Result<(Rate, u64), ImportFault> {
     let row = next_row(&mut reader.cursor, reader.mark, reader.notes, 2)?;
     if 2 < row.parts.full {
@@ -78,7 +78,7 @@ fn rate_of<A: Allocator + Copy>(
 }
 
 /// Whether the next line is a rate line.
-fn has_rate_line(cursor: Cursor<'_>, mark: u8) -> bool {
+fn has_rate_line(cursor: TextCursor<'_>, mark: u8) -> bool {
     let mut ahead = cursor;
     let Some(line) = ahead.next_line() else {
         return false;
@@ -86,12 +86,12 @@ fn has_rate_line(cursor: Cursor<'_>, mark: u8) -> bool {
     if is_like_instant(line.text, mark) {
         return false;
     }
-    Decimal::read(Parts::of(line.text, mark).at(0)).is_some()
+    Decimal::read(LineFields::of(line.text, mark).at(0)).is_some()
 }
 
 /// The rates in this many lines.
 fn rates_in<A: Allocator + Copy>(
-    reader: &mut Reader<'_, '_, A>,
+    reader: &mut LineReader<'_, '_, A>,
     count: u64,
 ) -> Result<Rates<A>, ImportFault> {
     let mut list = Vec::new(reader.alloc);
@@ -125,7 +125,7 @@ fn rates_in<A: Allocator + Copy>(
 
 /// Reads the lines from the number of rates to the last rate.
 pub(crate) fn rates_of<A: Allocator + Copy>(
-    reader: &mut Reader<'_, '_, A>,
+    reader: &mut LineReader<'_, '_, A>,
 ) -> Result<Rates<A>, ImportFault> {
     let (count, line) = rate_count(reader)?;
     if 0 < count {

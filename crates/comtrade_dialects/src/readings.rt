@@ -3,7 +3,7 @@
 use crate::fault::{ImportFault, Why};
 use crate::num::{Num, num_of_float};
 use crate::packed_row::Bytes;
-use crate::row::{Cells, Rows};
+use crate::row::{Cells, RowsLeft};
 use crate::scaled::Made;
 use crate::survey::{Ground, next_cells, next_floats};
 use comtrade_format::Row;
@@ -76,7 +76,7 @@ fn readings_of_floats<A: Allocator + Copy>(
 fn next_readings<'a, A: Allocator + Copy>(
     alloc: A,
     ground: Ground<'a>,
-    rows: &mut Rows<'a>,
+    rows: &mut RowsLeft<'a>,
     cells: &mut Cells<A>,
     made: &mut [Made],
     number: u64,
@@ -98,7 +98,7 @@ pub(crate) fn rows_of<A: Allocator + Copy>(
     stamps: &[Option<u64>],
 ) -> Result<Vec<Row<A>, A>, ImportFault> {
     let mut list = Vec::with_capacity(alloc, stamps.len())?;
-    let mut rows = Rows::of(ground.plan);
+    let mut rows = RowsLeft::of(ground.plan);
     let mut cells = Cells::new(alloc);
     for (number, stamp) in (1u64..).zip(stamps) {
         let values = next_readings(alloc, ground, &mut rows, &mut cells, made, number)?;

@@ -2,7 +2,7 @@
 
 ghost use Rattle.std.specs.Prelude.{◌≤◌};
 
-use crate::cursor::{Cursor, Line};
+use crate::cursor::{TextCursor, TextLine};
 use crate::fault::Why;
 use crate::kinds::Form;
 use crate::num::Num;
@@ -32,23 +32,23 @@ impl Packed<'_> {
 
 /// Where the rows are, and in which form.
 #[derive(Clone, Copy)]
-pub(crate) enum Plan<'a> {
+pub(crate) enum RowsPlan<'a> {
     Text(&'a [u8], u8),
     Packed(Packed<'a>),
 }
 
-impl Plan<'_> {
+impl RowsPlan<'_> {
     pub(crate) fn form(&self) -> Form {
         match self {
-            Plan::Text(_, _) => Form::Ascii,
-            Plan::Packed(packed) => packed.form,
+            RowsPlan::Text(_, _) => Form::Ascii,
+            RowsPlan::Packed(packed) => packed.form,
         }
     }
 }
 
 /// Numbers of channels.
 #[derive(Clone, Copy)]
-pub(crate) struct Counts {
+pub(crate) struct RowCounts {
     pub k: usize,
     pub m: usize,
 }
@@ -91,26 +91,26 @@ impl<A: Allocator + Copy> Cells<A> {
 
 /// Why a row cannot be read.
 #[derive(Clone, Copy)]
-pub(crate) enum Stop {
+pub(crate) enum RowStop {
     Memory,
     Why(Why),
 }
 
 /// Converts any error that means out of memory.
-impl<E: Drop> From<E> for Stop
+impl<E: Drop> From<E> for RowStop
 where
     Memory: From<E>,
 {
-    fn from(_e: E) -> Stop {
-        Stop::Memory
+    fn from(_e: E) -> RowStop {
+        RowStop::Memory
     }
 }
 
 /// The remaining rows.
 #[derive(Drop)]
-pub(crate) struct Rows<'a> {
-    plan: Plan<'a>,
-    cursor: Cursor<'a>,
+pub(crate) struct RowsLeft<'a> {
+    plan: RowsPlan<'a>,
+    cursor: TextCursor<'a>,
     /// Those of binary data, and their numbers.
     bytes: &'a [u8],
     numbers: RangeFrom<u64>,
@@ -118,22 +118,22 @@ pub(crate) struct Rows<'a> {
 
 /// The result of a step over the rows.
 #[derive(Clone, Copy)]
-pub(crate) enum Step {
+pub(crate) enum RowStep {
     Row(u64),
     End,
     /// The last row is incomplete.
     Cut(u64),
 }
 
-impl<'a> Rows<'a> {
-    pub(crate) fn of(plan: Plan<'a>) -> Rows<'a> {
+impl<'a> RowsLeft<'a> {
+    pub(crate) fn of(plan: RowsPlan<'a>) -> RowsLeft<'a> {
         let (text, bytes): (&'a [u8], &'a [u8]) = match plan {
-            Plan::Text(text, _) => (text, &[]),
-            Plan::Packed(packed) => (&[], packed.bytes),
+            RowsPlan::Text(text, _) => (text, &[]),
+            RowsPlan::Packed(packed) => (&[], packed.bytes),
         };
-        Rows {
+        RowsLeft {
             plan,
-            cursor: Cursor::new(text),
+            cursor: TextCursor::new(text),
             bytes,
             numbers: 1..,
         }
@@ -148,23 +148,23 @@ impl<'a> Rows<'a> {
     fn line_step<A: Allocator>(
         &mut self,
         cells: &mut Cells<A>,
-        line: Line<'_>,
+        line: TextLine<'_>,
         mark: u8,
-        counts: Counts,
-    ) -> Result<Step, (u64, Stop)> {
+        counts: RowCounts,
+    ) -> Result<RowStep, (u64, RowStop)> {
         match read_line(cells, line.text, mark, counts) {
             Ok(()) => {
                 cells.odd.has_blank_before = line.after_blank;
                 cells.odd.is_doubled = line.is_doubled;
-                Ok(Step::Row(line.number))
+                Ok(RowStep::Row(line.number))
             }
-            Err(Stop::Memory) => Err((line.number, Stop::Memory)),
-            Err(Stop::Why(why)) => {
+            Err(RowStop::Memory) => Err((line.number, RowStop::Memory)),
+            Err(RowStop::Why(why)) => {
                 let has_few = matches!(why, Why::RowFields) && !cells.odd.has_trailing;
                 if (has_few || !line.is_ended) && self.is_last() {
-                    return Ok(Step::Cut(line.number));
+                    return Ok(RowStep::Cut(line.number));
                 }
-                Err((line.number, Stop::Why(why)))
+                Err((line.number, RowStop::Why(why)))
             }
         }
     }
@@ -180,20 +180,20 @@ impl<'a> Rows<'a> {
     pub(crate) fn step<A: Allocator>(
         &mut self,
         cells: &mut Cells<A>,
-        counts: Counts,
+        counts: RowCounts,
         unsigned: &[bool],
-    ) -> Result<Step, (u64, Stop)> {
+    ) -> Result<RowStep, (u64, RowStop)> {
         match self.plan {
-            Plan::Text(_, mark) => match self.cursor.next_line() {
+            RowsPlan::Text(_, mark) => match self.cursor.next_line() {
                 Some(line) => self.line_step(cells, line, mark, counts),
-                None => Ok(Step::End),
+                None => Ok(RowStep::End),
             },
-            Plan::Packed(packed) => {
+            RowsPlan::Packed(packed) => {
                 let Some((number, row)) = self.next_packed(packed) else {
-                    return Ok(Step::End);
+                    return Ok(RowStep::End);
                 };
                 match read_packed(cells, row, packed, counts, unsigned) {
-                    Ok(()) => Ok(Step::Row(number)),
+                    Ok(()) => Ok(RowStep::Row(number)),
                     Err(stop) => Err((number, stop)),
                 }
             }

@@ -1,26 +1,27 @@
 //! Reads a line with a date and time, before the order of day and month is known.
 
-use crate::cursor::{Cursor, around};
-use crate::dates::{Civil, Clock, Order, civil_of, clock_of, is_like_instant};
+use crate::cursor::{TextCursor, around};
+use crate::dates::{Civil, Order, TimeOfDay, civil_of, clock_of, is_like_instant};
 use crate::fault::{ImportFault, Why};
 use crate::key::Key;
-use crate::lines::{Reader, Row, at, next_row};
+use crate::lines::{FieldRow, LineReader, at, next_row};
 use crate::note::{Notes, Place};
-use crate::text::{around_any, put_quoted};
-use comtrade_values::{put, put_number, trim};
+use crate::text::{around_any, push_quoted};
+use comtrade_values::trim;
 use std::alloc::Allocator;
+use std::fmt::Write;
 
 /// A line with a date and time; either is None if it is missing.
 #[derive(Clone, Copy)]
-pub(crate) struct Said {
+pub(crate) struct InstantLine {
     civil: Option<Civil>,
-    clock: Option<Clock>,
+    clock: Option<TimeOfDay>,
     pub line: u64,
 }
 
 /// The texts of the date and the time of day in a line. They may share one field, with a blank
 /// between them.
-fn texts_of<'a>(row: Row<'a>, mark: u8) -> (&'a [u8], &'a [u8], bool) {
+fn texts_of<'a>(row: FieldRow<'a>, mark: u8) -> (&'a [u8], &'a [u8], bool) {
     let field = row.parts.at(0);
     if 1 < row.parts.full || field.is_empty() || mark == 0 {
         let time = if row.parts.full == 3 {
@@ -47,7 +48,7 @@ fn rest_after(line: &[u8], mark: u8) -> &[u8] {
 fn tell_clock<A: Allocator + Copy>(
     notes: &mut Notes<A>,
     line: u64,
-    clock: Clock,
+    clock: TimeOfDay,
     text: &[u8],
 ) -> Result<(), ImportFault> {
     for (is_odd, key) in [
@@ -80,17 +81,16 @@ fn tell_civil<A: Allocator + Copy>(
         notes.tell_text(Key::DateForm, Place::Cfg(line), text)?;
     }
     if civil.has_short_year {
-        let mut piece = Vec::new(notes.allocator());
-        put_quoted(&mut piece, text)?;
-        put(&mut piece, " is in ")?;
-        put_number(&mut piece, u64::from(civil.year))?;
-        notes.tell(Key::Years2Digits, Place::Cfg(line), &piece)?;
+        let mut piece = String::new(notes.allocator());
+        push_quoted(&mut piece, text)?;
+        write!(piece, " is in {}", civil.year)?;
+        notes.tell(Key::Years2Digits, Place::Cfg(line), piece.as_bytes())?;
     }
     Ok(())
 }
 
 /// Whether the next line can be a date and time; None if there is no line.
-fn is_next(cursor: Cursor<'_>, mark: u8) -> Option<bool> {
+fn is_next(cursor: TextCursor<'_>, mark: u8) -> Option<bool> {
     let mut ahead = cursor;
     let line = ahead.next_line()?;
     Some(is_like_instant(line.text, mark))
@@ -99,9 +99,9 @@ fn is_next(cursor: Cursor<'_>, mark: u8) -> Option<bool> {
 /// Reads the date and the time of day in a line, and notes their oddities.
 fn said_in<A: Allocator + Copy>(
     notes: &mut Notes<A>,
-    row: Row<'_>,
+    row: FieldRow<'_>,
     mark: u8,
-) -> Result<Said, ImportFault> {
+) -> Result<InstantLine, ImportFault> {
     let line = row.number;
     let (date, time, is_joined) = texts_of(row, mark);
     let civil = civil_of(date);
@@ -121,19 +121,21 @@ fn said_in<A: Allocator + Copy>(
         }
         tell_civil(notes, line, civil, is_joined, date)?;
     }
-    Ok(Said { civil, clock, line })
+    Ok(InstantLine { civil, clock, line })
 }
 
 /// Reads the next line, which is a date and time.
-fn said_there<A: Allocator + Copy>(reader: &mut Reader<'_, '_, A>) -> Result<Said, ImportFault> {
+fn said_there<A: Allocator + Copy>(
+    reader: &mut LineReader<'_, '_, A>,
+) -> Result<InstantLine, ImportFault> {
     let row = next_row(&mut reader.cursor, reader.mark, reader.notes, 2)?;
     said_in(reader.notes, row, reader.mark)
 }
 
 /// Reads the next line, if it is a date and time.
 pub(crate) fn said_of<A: Allocator + Copy>(
-    reader: &mut Reader<'_, '_, A>,
-) -> Result<Said, ImportFault> {
+    reader: &mut LineReader<'_, '_, A>,
+) -> Result<InstantLine, ImportFault> {
     let mut ahead = reader.cursor;
     let line = ahead.next_number();
     let Some(is_instant) = is_next(ahead, reader.mark) else {
@@ -144,14 +146,14 @@ pub(crate) fn said_of<A: Allocator + Copy>(
     }
     ahead.skip_blanks();
     reader.cursor = ahead;
-    Ok(Said {
+    Ok(InstantLine {
         civil: None,
         clock: None,
         line,
     })
 }
 
-impl Said {
+impl InstantLine {
     /// The date, if one is set.
     pub(crate) fn date(self) -> Option<Civil> {
         match self.civil {

@@ -7,7 +7,7 @@ use crate::num::{Num, ten_to};
 
 /// Multiples of 10^-shift; `fives` is 5^shift for a shift from 0 to 44, else 1.
 #[derive(Clone, Copy)]
-pub(crate) struct Scale {
+pub(crate) struct DecimalScale {
     pub shift: i32,
     fives: Option<u128>,
     /// The same if it has at most 39 bits.
@@ -18,10 +18,10 @@ pub(crate) struct Scale {
 /// The greatest power of five that has at most 39 bits.
 const SHORT: u32 = 16;
 
-impl Scale {
+impl DecimalScale {
     /// The scale with this shift, or with the nearest one from -60 to 44: the product of a float's
     /// 24 bits and 5^44 has at most 127 bits.
-    pub(crate) fn new(shift: i32) -> Scale {
+    pub(crate) fn new(shift: i32) -> DecimalScale {
         let shift = if shift < -60 {
             -60
         } else if 44 < shift {
@@ -30,7 +30,7 @@ impl Scale {
             shift
         };
         let power = if shift < 0 { 0 } else { shift.unsigned_abs() };
-        Scale {
+        DecimalScale {
             shift,
             fives: 5u128.checked_pow(power),
             short: if power <= SHORT {
@@ -42,14 +42,14 @@ impl Scale {
     }
 
     /// The scale that distinguishes eighteen digits of numbers below 10^order.
-    pub(crate) fn below(order: i32) -> Scale {
+    pub(crate) fn below(order: i32) -> DecimalScale {
         if order < -100 {
-            return Scale::new(118);
+            return DecimalScale::new(118);
         }
         if 100 < order {
-            return Scale::new(-82);
+            return DecimalScale::new(-82);
         }
-        Scale::new(18 - order)
+        DecimalScale::new(18 - order)
     }
 
     /// The multiple nearest to a number; None if 64 bits cannot hold it, so not if the number's

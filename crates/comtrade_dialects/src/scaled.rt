@@ -1,14 +1,14 @@
 //! Decides how the samples of each channel are written, and notes the changes.
 
-use crate::draft::{Range, Said};
+use crate::draft::{DeclaredRange, Range};
 use crate::fault::{ImportFault, Why};
-use crate::fit::{Fit, fit_of, long_fit_of};
+use crate::fit::{SampleFit, fit_of, long_fit_of};
 use crate::key::Key;
 use crate::kinds::Form;
 use crate::note::{Notes, Place};
 use crate::pair::Samples;
-use crate::span::Span;
-use crate::survey::{Ground, Survey};
+use crate::span::SampleSpan;
+use crate::survey::{Ground, RowsSurvey};
 use comtrade_values::{Decimal, Exact, put, put_decimal};
 use dfr_channels::AnalogChannel;
 use std::alloc::Allocator;
@@ -16,7 +16,7 @@ use std::alloc::Allocator;
 /// How a channel's samples become whole numbers.
 #[derive(Clone, Copy)]
 pub(crate) struct Made {
-    pub fit: Fit,
+    pub fit: SampleFit,
     /// The original multiplier.
     factor: Decimal,
     /// The greatest error of a sample, in units of 10^-shift.
@@ -25,11 +25,12 @@ pub(crate) struct Made {
 }
 
 /// The range of the whole numbers that the samples become.
-fn range_for(fit: &Fit, is_text: bool) -> (i32, i32) {
+fn range_for(fit: &SampleFit, is_text: bool) -> (i32, i32) {
     match fit {
-        Fit::LongTens(_) => LONG_RANGE,
-        Fit::Exact(steps) | Fit::Steps(steps) if steps.most == LONG_RANGE.1 => LONG_RANGE,
-        Fit::Steps(_) => (-32_767, 32_767),
+        SampleFit::LongTens(_) => LONG_RANGE,
+        SampleFit::Exact(steps) | SampleFit::Steps(steps) if steps.most == LONG_RANGE.1 =>
+            LONG_RANGE,
+        SampleFit::Steps(_) => (-32_767, 32_767),
         _ if is_text => (-99_999, 99_998),
         _ => (-32_767, 32_767),
     }
@@ -42,8 +43,8 @@ const LONG_RANGE: (i32, i32) = (-2_147_483_647, 2_147_483_647);
 fn set_same<A: Allocator + Copy>(
     notes: &mut Notes<A>,
     channel: &mut AnalogChannel<A>,
-    said: Said,
-    span: &Span,
+    said: DeclaredRange,
+    span: &SampleSpan,
     ground: Ground<'_>,
 ) -> Result<(), ImportFault> {
     let is_shown = ground.samples == Samples::Shown && ground.has_long_ranges;
@@ -63,7 +64,7 @@ fn set_same<A: Allocator + Copy>(
         return Ok(());
     }
     let (low, high) = if span.fits {
-        range_for(&Fit::Same, ground.is_text())
+        range_for(&SampleFit::Same, ground.is_text())
     } else {
         LONG_RANGE
     };
@@ -74,7 +75,7 @@ fn set_same<A: Allocator + Copy>(
 
 /// How a channel's samples become whole numbers: as a file of 1999 holds them, unless that rounds
 /// them and they are only shown. None if they are too large.
-fn choice_of(span: &Span, is_unsigned: bool, ground: Ground<'_>) -> Option<Fit> {
+fn choice_of(span: &SampleSpan, is_unsigned: bool, ground: Ground<'_>) -> Option<SampleFit> {
     let written = fit_of(span, ground.bounds, is_unsigned);
     match written {
         Some(fit) if !fit.is_rounded() => Some(fit),
@@ -95,8 +96,8 @@ fn bound_less(bound: i32, by: i32) -> i32 {
 /// Sets the range and the scale of a channel whose samples change.
 fn set_other<A: Allocator + Copy>(
     channel: &mut AnalogChannel<A>,
-    said: Said,
-    fit: &Fit,
+    said: DeclaredRange,
+    fit: &SampleFit,
     is_text: bool,
 ) -> Result<(), ImportFault> {
     let fault = ImportFault::Cfg(said.line, Why::Scale);
@@ -109,7 +110,7 @@ fn set_other<A: Allocator + Copy>(
     channel.a = a;
     channel.b = b;
     let (low, high) = match fit {
-        Fit::Shift(by) => (bound_less(channel.min, *by), bound_less(channel.max, *by)),
+        SampleFit::Shift(by) => (bound_less(channel.min, *by), bound_less(channel.max, *by)),
         _ => range_for(fit, is_text),
     };
     channel.min = low;
@@ -121,8 +122,8 @@ fn set_other<A: Allocator + Copy>(
 fn made_of<A: Allocator + Copy>(
     notes: &mut Notes<A>,
     channel: &mut AnalogChannel<A>,
-    said: Said,
-    span: &Span,
+    said: DeclaredRange,
+    span: &SampleSpan,
     place: (bool, Ground<'_>),
 ) -> Result<Made, ImportFault> {
     let (is_unsigned, ground) = place;
@@ -145,7 +146,7 @@ fn made_of<A: Allocator + Copy>(
 
 /// Whether the samples of a channel have more digits than they may have: scaled for a pair, or kept
 /// in what is shown.
-fn is_wide(span: &Span, fit: &Fit, ground: Ground<'_>) -> bool {
+fn is_wide(span: &SampleSpan, fit: &SampleFit, ground: Ground<'_>) -> bool {
     if fit.is_same() {
         !span.fits && !ground.has_long_ranges
     } else {
@@ -157,7 +158,7 @@ fn is_wide(span: &Span, fit: &Fit, ground: Ground<'_>) -> bool {
 fn tell_samples<A: Allocator + Copy>(
     notes: &mut Notes<A>,
     ground: Ground<'_>,
-    survey: &Survey<A>,
+    survey: &RowsSurvey<A>,
     made: &[Made],
 ) -> Result<(), ImportFault> {
     if survey.has_points {
@@ -167,7 +168,7 @@ fn tell_samples<A: Allocator + Copy>(
         return Ok(());
     }
     for (number, (span, made)) in (1u64..).zip(survey.spans.iter().zip(made.iter())) {
-        if let Fit::Shift(_) = made.fit {
+        if let SampleFit::Shift(_) = made.fit {
             notes.tell(Key::ValuesUnsigned, Place::Channel(number), &[])?;
         } else if is_wide(span, &made.fit, ground) {
             notes.tell(Key::ValuesWide, Place::Channel(number), &[])?;
@@ -181,8 +182,8 @@ pub(crate) fn settle_channels<A: Allocator + Copy>(
     alloc: A,
     notes: &mut Notes<A>,
     channels: &mut Vec<AnalogChannel<A>, A>,
-    said: &[Said],
-    survey: &Survey<A>,
+    said: &[DeclaredRange],
+    survey: &RowsSurvey<A>,
     ground: Ground<'_>,
 ) -> Result<Vec<Made, A>, ImportFault> {
     let mut list = Vec::new(alloc);

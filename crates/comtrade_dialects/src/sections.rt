@@ -229,14 +229,14 @@ fn has_text(text: &[u8]) -> bool {
 
 /// The sections so far.
 #[derive(Clone, Copy)]
-struct Found<'a> {
+struct SectionsSoFar<'a> {
     sections: Sections<'a>,
     has_cfg: bool,
     has_dat: bool,
 }
 
 /// Adds a section, and returns the rest after it.
-fn add<'a>(found: &mut Found<'a>, separator: Separator<'a>) -> Result<&'a [u8], Why> {
+fn add<'a>(found: &mut SectionsSoFar<'a>, separator: Separator<'a>) -> Result<&'a [u8], Why> {
     let ((text, rest), wrong) = contents_of(separator);
     found.sections.has_odd_separator = found.sections.has_odd_separator || !separator.is_usual;
     match separator.section {
@@ -262,7 +262,7 @@ fn add<'a>(found: &mut Found<'a>, separator: Separator<'a>) -> Result<&'a [u8], 
 
 /// Splits a single file into its sections. It is an error if CFG or DAT is missing or occurs twice.
 pub fn cut(cff: &[u8]) -> Result<Sections<'_>, ImportFault> {
-    let mut found = Found {
+    let mut found = SectionsSoFar {
         sections: Sections {
             cfg: &[],
             dat: &[],

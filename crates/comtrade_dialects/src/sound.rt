@@ -1,9 +1,11 @@
 //! Decides whether a file that reads exactly is also meant that way.
 
-use crate::doubts::{Doubts, add_times, clock_of};
+use crate::clock::Clock;
+use crate::doubts::Doubts;
 use crate::kinds::Form;
+use crate::seen::{TimesSeen, clock_with};
 use crate::text::has_only;
-use comtrade_format::{File, Head, Kind, Row};
+use comtrade_format::{Border, File, Head, Kind, Row, border_of};
 use dfr_channels::{AnalogChannel, Reading};
 use memchr::memchr;
 use std::alloc::{AllocError, Allocator};
@@ -16,7 +18,8 @@ fn is_channel_sound<A: Allocator>(channel: &AnalogChannel<A>) -> bool {
         && channel.secondary.units() != 0
 }
 
-fn is_head_sound<A: Allocator>(head: &Head<A>) -> bool {
+/// Whether a head that reads exactly is meant that way.
+pub fn is_head_sound<A: Allocator>(head: &Head<A>) -> bool {
     for channel in head.analog.items() {
         if !is_channel_sound(channel) {
             return false;
@@ -30,34 +33,67 @@ fn is_head_sound<A: Allocator>(head: &Head<A>) -> bool {
     head.first <= head.trigger
 }
 
-/// Whether all rows are numbered from 1 and have stamps from 0; without rates, the stamps must not
-/// all be the same.
-fn are_rows_sound<A: Allocator>(rows: &[Row<A>], has_clock: bool) -> bool {
-    let mut last = 0u64;
-    for (number, row) in (1u64..).zip(rows) {
-        let Some(stamp) = row.stamp else {
-            return false;
-        };
-        if row.number != number || number == 1 && stamp != 0 {
-            return false;
-        }
-        last = last.max(stamp);
+/// Whether the numbers and stamps of rows that read exactly are plausible, one row after the other:
+/// the rows are numbered from 1 and have stamps from 0, which agree with the rates. Without rates,
+/// the stamps must not all be the same.
+#[derive(Drop)]
+pub struct SoundRows<A: Allocator> {
+    clock: Option<Clock<A>>,
+    times: TimesSeen,
+    doubts: Doubts,
+    /// How many rows were taken, and their greatest stamp.
+    rows: u64,
+    last: u64,
+    is_odd: bool,
+}
+
+impl<A: Allocator + Copy> SoundRows<A> {
+    /// Before the first row of a file with this head, if this rate gives the interval across each
+    /// border.
+    pub fn new(alloc: A, head: &Head<A>, border: Border) -> Result<SoundRows<A>, AllocError> {
+        let clock = clock_with(alloc, head, border)?;
+        let is_odd = head.nrates != 0 && clock.is_none();
+        Ok(SoundRows {
+            clock,
+            times: TimesSeen::new(head.timemult),
+            doubts: Doubts::default(),
+            rows: 0,
+            last: 0,
+            is_odd,
+        })
     }
-    has_clock || 0 < last || rows.len() < 2
+
+    /// Takes the number and the stamp of the next row.
+    pub fn take(&mut self, number: u64, stamp: Option<u64>) {
+        self.times
+            .take(&mut self.doubts, &self.clock, number, stamp);
+        let place = self.rows.saturating_add(1); // (no file has 2^64 rows)
+        self.rows = place;
+        let Some(stamp) = stamp else {
+            self.is_odd = true;
+            return;
+        };
+        if number != place || place == 1 && stamp != 0 {
+            self.is_odd = true;
+        }
+        self.last = self.last.max(stamp);
+    }
+
+    /// Whether all rows that were taken are sound together.
+    pub fn are_sound(&self) -> bool {
+        let differ = self.clock.is_some() || 0 < self.last || self.rows < 2;
+        let agree = self.doubts.off.is_none() && self.doubts.falling.is_none();
+        differ && agree && !self.is_odd
+    }
 }
 
 /// Whether the numbers and stamps of all rows are plausible.
 fn are_times_sound<A: Allocator + Copy>(alloc: A, file: &File<A>) -> Result<bool, AllocError> {
-    let clock = clock_of(alloc, file)?;
-    if file.head.nrates != 0 && clock.is_none() {
-        return Ok(false);
+    let mut rows = SoundRows::new(alloc, &file.head, border_of(file))?;
+    for row in file.rows.items() {
+        rows.take(row.number, row.stamp);
     }
-    if !are_rows_sound(file.rows.items(), clock.is_some()) {
-        return Ok(false);
-    }
-    let mut doubts = Doubts::default();
-    add_times(&mut doubts, file, &clock);
-    Ok(doubts.off.is_none() && doubts.falling.is_none())
+    Ok(rows.are_sound())
 }
 
 /// Whether ASCII rows have an empty field, or text after their end.
@@ -102,8 +138,8 @@ fn has_foreign_mark<A: Allocator>(file: &File<A>) -> bool {
     false
 }
 
-/// Whether an unused bit is set, in rows of this size.
-fn has_spare_bits(dat: &[u8], k: usize, m: usize) -> bool {
+/// Whether an unused bit is set, in BINARY rows of k values and m bits.
+pub fn has_spare_bits(dat: &[u8], k: usize, m: usize) -> bool {
     let used = (m % 16) as u32;
     let Some(size) = Form::Binary.row_size(k, m) else {
         return false;

@@ -1,29 +1,29 @@
 //! Summarises the samples of a channel.
 
 use crate::num::{Num, ten_to};
-use crate::scale::Scale;
+use crate::scale::DecimalScale;
 
 /// The least and the greatest whole number that a form of data can hold.
 #[derive(Clone, Copy)]
-pub(crate) struct Bounds {
+pub(crate) struct WholeBounds {
     pub low: i64,
     pub high: i64,
 }
 
 /// A sample, and its order key.
 #[derive(Clone, Copy)]
-struct End {
+struct OrderedSample {
     num: Num,
     place: i128,
 }
 
 /// A summary of the samples of a channel so far.
 #[derive(Clone, Copy)]
-pub(crate) struct Span {
+pub(crate) struct SampleSpan {
     /// The first sample, if there is one.
     pub first: Option<Num>,
     /// The least and the greatest sample, while none is a multiple of a power of ten.
-    ends: Option<(End, End)>,
+    ends: Option<(OrderedSample, OrderedSample)>,
     is_binary: bool,
     /// All of them are whole numbers within the bounds.
     pub fits: bool,
@@ -35,8 +35,8 @@ pub(crate) struct Span {
     pub order: i32,
     /// The least n for which all samples times 10^n are whole.
     pub need: i32,
-    pub reach: Reach,
-    pub scale: Scale,
+    pub reach: SampleReach,
+    pub scale: DecimalScale,
     /// Where it is sought, the greatest number of the scale's units of which all samples are
     /// multiples from the least one; 0 before the second sample that differs.
     pub step: Option<u64>,
@@ -61,7 +61,7 @@ fn common(first: u64, second: u64) -> u64 {
 
 /// The least and the greatest sample as multiples of the scale's unit.
 #[derive(Clone, Copy)]
-pub(crate) enum Reach {
+pub(crate) enum SampleReach {
     /// There is no sample yet.
     Empty,
     /// The least and the greatest.
@@ -70,28 +70,34 @@ pub(crate) enum Reach {
     Beyond,
 }
 
-impl Reach {
+impl SampleReach {
     /// The same with one more multiple, which is None if 64 bits cannot hold it.
-    fn with(self, near: Option<i64>) -> Reach {
+    fn with(self, near: Option<i64>) -> SampleReach {
         match (self, near) {
-            (Reach::Empty, Some(near)) => Reach::Within(near, near),
-            (Reach::Within(low, high), Some(near)) => Reach::Within(low.min(near), high.max(near)),
-            _ => Reach::Beyond,
+            (SampleReach::Empty, Some(near)) => SampleReach::Within(near, near),
+            (SampleReach::Within(low, high), Some(near)) => SampleReach::Within(
+                low.min(near),
+                high.max(near),
+            ),
+            _ => SampleReach::Beyond,
         }
     }
 
     /// The least and the greatest, where 64 bits hold both.
     pub(crate) fn ends(self) -> Option<(i64, i64)> {
         match self {
-            Reach::Within(low, high) => Some((low, high)),
-            Reach::Empty | Reach::Beyond => None,
+            SampleReach::Within(low, high) => Some((low, high)),
+            SampleReach::Empty | SampleReach::Beyond => None,
         }
     }
 }
 
-fn ends_with(ends: Option<(End, End)>, num: Num) -> (End, End) {
+fn ends_with(
+    ends: Option<(OrderedSample, OrderedSample)>,
+    num: Num,
+) -> (OrderedSample, OrderedSample) {
     let place = num.place();
-    let end = End { num, place };
+    let end = OrderedSample { num, place };
     match ends {
         Some((least, most)) if place < least.place => (end, most),
         Some((least, most)) if most.place < place => (least, end),
@@ -100,9 +106,9 @@ fn ends_with(ends: Option<(End, End)>, num: Num) -> (End, End) {
     }
 }
 
-impl Span {
-    pub(crate) fn new() -> Span {
-        Span {
+impl SampleSpan {
+    pub(crate) fn new() -> SampleSpan {
+        SampleSpan {
             first: None,
             ends: None,
             is_binary: true,
@@ -112,14 +118,14 @@ impl Span {
             most: i64::MIN,
             order: -9_999,
             need: -9_999,
-            reach: Reach::Empty,
+            reach: SampleReach::Empty,
             step: None,
-            scale: Scale::new(0),
+            scale: DecimalScale::new(0),
         }
     }
 
     /// Adds a sample.
-    pub(crate) fn add(&mut self, num: Num, bounds: Bounds) {
+    pub(crate) fn add(&mut self, num: Num, bounds: WholeBounds) {
         if self.first.is_none() {
             self.first = Some(num);
         }
@@ -150,7 +156,7 @@ impl Span {
     /// Sets the scale that distinguishes eighteen digits, and the ends in this scale, if they
     /// are known.
     pub(crate) fn settle(&mut self) {
-        self.scale = Scale::below(self.order);
+        self.scale = DecimalScale::below(self.order);
         if self.is_binary {
             if let Some((least, most)) = self.ends {
                 self.widen(least.num);

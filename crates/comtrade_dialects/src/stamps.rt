@@ -1,14 +1,14 @@
 //! Decides what becomes of the numbers and time stamps of all rows.
 
 use crate::clock::{Clock, time_of_stamp};
-use crate::draft::{Draft, Revision};
+use crate::draft::{ConfigDraft, Revision};
 use crate::fault::ImportFault;
 use crate::kept_stamps::{kept, stamps_by_rate, start_of, time_of_tick, time_since};
 use crate::key::Key;
 use crate::nearest::rounded;
 use crate::note::{Notes, Place};
 use crate::num::Num;
-use crate::numbers::{Run, Tick, rates_for, run_of, tell_lost, tell_numbers};
+use crate::numbers::{Numbering, Tick, rates_for, run_of, tell_lost, tell_numbers};
 use comtrade_format::{Border, Rate, search_in};
 use comtrade_values::Decimal;
 use std::alloc::Allocator;
@@ -23,7 +23,7 @@ pub(crate) struct Times<A: Allocator> {
 
 /// The numbers and stamps of all rows, as they were read.
 #[derive(Clone, Copy)]
-pub(crate) struct Track<'a> {
+pub(crate) struct StampTrack<'a> {
     pub ticks: &'a [Tick],
     pub timemult: Decimal,
     /// The greatest stamp that the form of the data can hold.
@@ -37,7 +37,7 @@ pub(crate) struct Track<'a> {
 
 /// By what a stamp is divided, and with the times of which rows it is compared.
 #[derive(Clone, Copy)]
-struct Sight {
+struct StampScale {
     part: i128,
     by_number: bool,
 }
@@ -55,7 +55,11 @@ fn is_near(
 }
 
 /// Whether all stamps agree with the rates.
-fn agrees<A: Allocator + Copy>(track: &Track<'_>, clock: &Clock<A>, sight: Sight) -> bool {
+fn agrees<A: Allocator + Copy>(
+    track: &StampTrack<'_>,
+    clock: &Clock<A>,
+    sight: StampScale,
+) -> bool {
     let Some(first) = track.ticks.first() else {
         return true;
     };
@@ -118,7 +122,7 @@ fn are_same(ticks: &[Tick]) -> bool {
 
 /// What the stamps turn out to be.
 #[derive(Clone, Copy, PartialEq, Eq)]
-enum Found {
+enum StampMeaning {
     /// There are none.
     None,
     /// They are kept except for a shift and rounding, and divided by this number.
@@ -130,47 +134,47 @@ enum Found {
 /// Decides on stamps if there are rates.
 fn beside_rates<A: Allocator + Copy>(
     notes: &mut Notes<A>,
-    track: &Track<'_>,
+    track: &StampTrack<'_>,
     clock: &Clock<A>,
-) -> Result<Found, ImportFault> {
-    let plain = Sight {
+) -> Result<StampMeaning, ImportFault> {
+    let plain = StampScale {
         part: 1,
         by_number: false,
     };
     if track.ticks.len() < 2 || agrees(track, clock, plain) {
-        return Ok(Found::Kept(1));
+        return Ok(StampMeaning::Kept(1));
     }
-    let nanos = Sight {
+    let nanos = StampScale {
         part: 1_000,
         by_number: false,
     };
     let is_micro = time_of_stamp(Num::of(1), track.timemult) == Some(1_000_000);
     if is_micro && agrees(track, clock, nanos) {
         notes.tell(Key::StampsNs, track.place, &[])?;
-        return Ok(Found::Kept(1_000));
+        return Ok(StampMeaning::Kept(1_000));
     }
     if stamps_fall(track.ticks, track.timemult) {
         notes.tell(Key::StampsRestart, track.place, &[])?;
     } else {
         notes.tell(Key::StampsAgainstRate, track.place, b"the rate is used")?;
     }
-    Ok(Found::ByRate)
+    Ok(StampMeaning::ByRate)
 }
 
 fn without_rates<A: Allocator + Copy>(
     notes: &mut Notes<A>,
-    track: &Track<'_>,
-    draft: &Draft<A>,
-) -> Result<Found, ImportFault> {
+    track: &StampTrack<'_>,
+    draft: &ConfigDraft<A>,
+) -> Result<StampMeaning, ImportFault> {
     if are_same(track.ticks) {
         notes.tell(Key::TimesUnknown, track.place, &[])?;
-        return Ok(Found::Kept(1));
+        return Ok(StampMeaning::Kept(1));
     }
     if draft.revision == Revision::Of2013 && draft.has_nanos {
         notes.tell(Key::StampsNs, track.place, &[])?;
-        return Ok(Found::Kept(1_000));
+        return Ok(StampMeaning::Kept(1_000));
     }
-    Ok(Found::Kept(1))
+    Ok(StampMeaning::Kept(1))
 }
 
 fn has_no_stamp(ticks: &[Tick]) -> bool {
@@ -184,10 +188,10 @@ fn has_no_stamp(ticks: &[Tick]) -> bool {
 
 fn found_of<A: Allocator + Copy>(
     notes: &mut Notes<A>,
-    track: &Track<'_>,
-    draft: &Draft<A>,
+    track: &StampTrack<'_>,
+    draft: &ConfigDraft<A>,
     clock: Option<&Clock<A>>,
-) -> Result<Found, ImportFault> {
+) -> Result<StampMeaning, ImportFault> {
     if has_no_stamp(track.ticks) {
         let key = if clock.is_some() {
             Key::StampsAbsent
@@ -195,7 +199,7 @@ fn found_of<A: Allocator + Copy>(
             Key::TimesUnknown
         };
         notes.tell(key, track.place, &[])?;
-        return Ok(Found::None);
+        return Ok(StampMeaning::None);
     }
     match clock {
         Some(clock) => beside_rates(notes, track, clock),
@@ -204,12 +208,12 @@ fn found_of<A: Allocator + Copy>(
 }
 
 /// Whether rows are lost: the numbers have gaps, and so do the stamps.
-fn are_lost<A: Allocator + Copy>(track: &Track<'_>, clock: &Clock<A>) -> bool {
-    let plain = Sight {
+fn are_lost<A: Allocator + Copy>(track: &StampTrack<'_>, clock: &Clock<A>) -> bool {
+    let plain = StampScale {
         part: 1,
         by_number: false,
     };
-    let numbered = Sight {
+    let numbered = StampScale {
         part: 1,
         by_number: true,
     };
@@ -217,7 +221,7 @@ fn are_lost<A: Allocator + Copy>(track: &Track<'_>, clock: &Clock<A>) -> bool {
 }
 
 /// Which rate gives the interval across each border, by the stamps divided by so much.
-fn border_by(track: &Track<'_>, rates: &[Rate], part: i128) -> Border {
+fn border_by(track: &StampTrack<'_>, rates: &[Rate], part: i128) -> Border {
     let Some(pico) = Decimal::new(1, 6) else {
         return Border::Old;
     };
@@ -230,7 +234,7 @@ fn border_by(track: &Track<'_>, rates: &[Rate], part: i128) -> Border {
 }
 
 /// Which rate gives the interval across each border, by stamps that may be in nanoseconds.
-fn border_in(track: &Track<'_>, rates: &[Rate]) -> Border {
+fn border_in(track: &StampTrack<'_>, rates: &[Rate]) -> Border {
     if rates.len() < 2 {
         return Border::Old;
     }
@@ -244,15 +248,15 @@ fn border_in(track: &Track<'_>, rates: &[Rate]) -> Border {
 pub(crate) fn times_of<A: Allocator + Copy>(
     alloc: A,
     notes: &mut Notes<A>,
-    draft: &Draft<A>,
-    track: &Track<'_>,
+    draft: &ConfigDraft<A>,
+    track: &StampTrack<'_>,
     is_cut: bool,
 ) -> Result<Times<A>, ImportFault> {
     let run = run_of(track.ticks);
     let mut is_lost = false;
     for border in [Border::Old, Border::New] {
         if let Some(clock) = Clock::new(alloc, &draft.rates.list, border)? {
-            is_lost = is_lost || run == Run::Gaps && are_lost(track, &clock);
+            is_lost = is_lost || run == Numbering::Gaps && are_lost(track, &clock);
         }
     }
     if is_lost {
@@ -264,7 +268,7 @@ pub(crate) fn times_of<A: Allocator + Copy>(
             rates: Vec::new(alloc),
         });
     }
-    if run != Run::Plain {
+    if run != Numbering::Plain {
         tell_numbers(notes, track.ticks)?;
     }
     let rates = rates_for(alloc, notes, draft, track.ticks.len() as u64, is_cut)?;
@@ -282,13 +286,16 @@ pub(crate) fn times_of<A: Allocator + Copy>(
 fn settled<A: Allocator + Copy>(
     alloc: A,
     notes: &mut Notes<A>,
-    track: &Track<'_>,
+    track: &StampTrack<'_>,
     clock: Option<&Clock<A>>,
-    found: Found,
+    found: StampMeaning,
 ) -> Result<(Vec<Option<u64>, A>, Decimal), ImportFault> {
     match (found, clock, Decimal::new(1, 0)) {
-        (Found::ByRate, Some(clock), Some(one)) => Ok((stamps_by_rate(alloc, track, clock)?, one)),
-        (Found::Kept(part), _, _) => kept(alloc, notes, track, part),
+        (StampMeaning::ByRate, Some(clock), Some(one)) => Ok((
+            stamps_by_rate(alloc, track, clock)?,
+            one,
+        )),
+        (StampMeaning::Kept(part), _, _) => kept(alloc, notes, track, part),
         _ => {
             let mut list = Vec::new(alloc);
             for _ in 0..track.ticks.len() {

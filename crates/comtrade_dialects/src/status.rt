@@ -2,9 +2,9 @@
 
 use crate::analog::tell_index;
 use crate::fault::{ImportFault, Why};
-use crate::field::{Parts, joint_of};
+use crate::field::{LineFields, joint_of};
 use crate::key::Key;
-use crate::lines::{Row, at, phase_of, tell_empty, text_of};
+use crate::lines::{FieldRow, at, phase_of, tell_empty, text_of};
 use crate::note::{Notes, Place};
 use comtrade_values::{bit_of, free_bit_of};
 use dfr_channels::StatusChannel;
@@ -12,7 +12,7 @@ use std::alloc::Allocator;
 
 /// The layout of a line.
 #[derive(Clone, Copy)]
-enum Shape {
+enum StatusShape {
     /// Number, id, phase, component, normal.
     Full,
     /// Number, id, phase, normal.
@@ -22,33 +22,33 @@ enum Shape {
 }
 
 /// The layout of a line whose last field that is not empty is the fourth.
-fn shape_of_four(parts: Parts<'_>) -> Result<Shape, Why> {
+fn shape_of_four(parts: LineFields<'_>) -> Result<StatusShape, Why> {
     if bit_of(parts.at(3)).is_none() || parts.all == 5 {
-        return Ok(Shape::Full);
+        return Ok(StatusShape::Full);
     }
     if parts.all == 4 {
-        Ok(Shape::NoComponent)
+        Ok(StatusShape::NoComponent)
     } else {
         Err(Why::Normal)
     }
 }
 
-fn shape_of(parts: Parts<'_>) -> Result<Shape, Why> {
+fn shape_of(parts: LineFields<'_>) -> Result<StatusShape, Why> {
     if parts.full == 4 {
         return shape_of_four(parts);
     }
     if parts.full == 5 || parts.all == 5 {
-        return Ok(Shape::Full);
+        return Ok(StatusShape::Full);
     }
     if 5 < parts.full || parts.all < 3 {
         return Err(Why::StatusFields);
     }
     let third = parts.at(2);
     if parts.all == 3 || bit_of(third).is_some() {
-        return Ok(Shape::Short);
+        return Ok(StatusShape::Short);
     }
     if 5 < parts.all {
-        Ok(Shape::Full)
+        Ok(StatusShape::Full)
     } else {
         Err(Why::StatusFields)
     }
@@ -56,7 +56,7 @@ fn shape_of(parts: Parts<'_>) -> Result<Shape, Why> {
 
 /// The fields of a line with one field too many, if the extra comma can only belong to the id or
 /// the component.
-fn told_apart<'a>(parts: &Parts<'a>) -> Option<Parts<'a>> {
+fn told_apart<'a>(parts: &LineFields<'a>) -> Option<LineFields<'a>> {
     if parts.full == 4 && parts.all == 4 && bit_of(parts.at(3)).is_some() && 2 < parts.at(2).len() {
         return parts.joined(1);
     }
@@ -72,7 +72,7 @@ fn told_apart<'a>(parts: &Parts<'a>) -> Option<Parts<'a>> {
 /// The phase, the component and the normal state in a line. Notes a layout without some of them.
 fn rest_of<'a, A: Allocator + Copy>(
     notes: &mut Notes<A>,
-    parts: Parts<'a>,
+    parts: LineFields<'a>,
     line: u64,
     is_old: bool,
 ) -> Result<(&'a [u8], &'a [u8], &'a [u8]), ImportFault> {
@@ -81,17 +81,17 @@ fn rest_of<'a, A: Allocator + Copy>(
         Err(why) => return Err(at(line, why)),
     };
     match shape {
-        Shape::Full => {
+        StatusShape::Full => {
             if parts.all < 5 {
                 tell_empty(notes, line, "normal state: 0")?;
             }
             Ok((parts.at(2), parts.at(3), parts.at(4)))
         }
-        Shape::NoComponent => {
+        StatusShape::NoComponent => {
             notes.tell(Key::Status4Fields, Place::Cfg(line), &[])?;
             Ok((parts.at(2), &[], parts.at(3)))
         }
-        Shape::Short => {
+        StatusShape::Short => {
             if !is_old {
                 notes.tell(Key::Status3Fields, Place::Cfg(line), &[])?;
             }
@@ -103,7 +103,7 @@ fn rest_of<'a, A: Allocator + Copy>(
 /// The channel in a line, and its id as it is there.
 pub(crate) fn status_of<'a, A: Allocator + Copy>(
     notes: &mut Notes<A>,
-    row: Row<'a>,
+    row: FieldRow<'a>,
     number: u64,
     is_old: bool,
 ) -> Result<(StatusChannel<A>, &'a [u8]), ImportFault> {

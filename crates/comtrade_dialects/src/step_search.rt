@@ -1,17 +1,17 @@
 //! Finds the step between the samples of a channel that a power of ten does not make fit.
 
 use crate::fault::{ImportFault, Why};
-use crate::fit::{Fit, fit_of};
+use crate::fit::{SampleFit, fit_of};
 use crate::kinds::Form;
 use crate::num::num_of_float;
 use crate::packed_row::Bytes;
-use crate::row::{Cells, Rows};
-use crate::span::Span;
+use crate::row::{Cells, RowsLeft};
+use crate::span::SampleSpan;
 use crate::survey::{Ground, next_cells, next_floats};
 use std::alloc::Allocator;
 
 /// The floats of a row, which narrow the steps that are sought.
-fn narrow_by_floats(spans: &mut [Span], floats: Bytes<'_>) -> Option<()> {
+fn narrow_by_floats(spans: &mut [SampleSpan], floats: Bytes<'_>) -> Option<()> {
     let mut left = floats;
     for span in spans.iter_mut() {
         if let Some(num) = num_of_float(left.next_long()?) {
@@ -24,8 +24,8 @@ fn narrow_by_floats(spans: &mut [Span], floats: Bytes<'_>) -> Option<()> {
 /// Narrows the steps that are sought by the next row.
 fn narrow_by_row<'a, A: Allocator + Copy>(
     ground: Ground<'a>,
-    spans: &mut [Span],
-    rows: &mut Rows<'a>,
+    spans: &mut [SampleSpan],
+    rows: &mut RowsLeft<'a>,
     cells: &mut Cells<A>,
     number: u64,
 ) -> Result<(), ImportFault> {
@@ -47,10 +47,10 @@ fn narrow_by_row<'a, A: Allocator + Copy>(
 }
 
 /// Seeks the steps of the channels that would be rounded. Returns whether there are any.
-fn seek_all(ground: Ground<'_>, spans: &mut [Span]) -> bool {
+fn seek_all(ground: Ground<'_>, spans: &mut [SampleSpan]) -> bool {
     let mut has_any = false;
     for span in spans.iter_mut() {
-        if let Some(Fit::Steps(_)) = fit_of(span, ground.bounds, false) {
+        if let Some(SampleFit::Steps(_)) = fit_of(span, ground.bounds, false) {
             span.seek_step();
             has_any = has_any || span.is_sought();
         }
@@ -59,7 +59,7 @@ fn seek_all(ground: Ground<'_>, spans: &mut [Span]) -> bool {
 }
 
 /// Whether a step is sought.
-fn any_sought(spans: &[Span]) -> bool {
+fn any_sought(spans: &[SampleSpan]) -> bool {
     for span in spans {
         if span.is_sought() {
             return true;
@@ -74,14 +74,14 @@ fn any_sought(spans: &[Span]) -> bool {
 pub(crate) fn find_steps<A: Allocator + Copy>(
     alloc: A,
     ground: Ground<'_>,
-    spans: &mut [Span],
+    spans: &mut [SampleSpan],
     rows: u64,
 ) -> Result<(), ImportFault> {
     let form = ground.plan.form();
     if !matches!(form, Form::Float32 | Form::Binary32) || !seek_all(ground, spans) {
         return Ok(());
     }
-    let mut left = Rows::of(ground.plan);
+    let mut left = RowsLeft::of(ground.plan);
     let mut cells = Cells::new(alloc);
     for number in 1..=rows {
         if !any_sought(spans) {

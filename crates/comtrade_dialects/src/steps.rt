@@ -6,13 +6,13 @@ ghost use Rattle.std.specs.Int.{abs_diff};
 
 use crate::nearest::{over, rounded};
 use crate::num::size_of_float;
-use crate::scale::Scale;
-use crate::span::Span;
+use crate::scale::DecimalScale;
+use crate::span::SampleSpan;
 
 /// Steps of `unit` from `middle`, both in the scale's unit.
 #[derive(Clone, Copy)]
 pub(crate) struct Steps {
-    pub scale: Scale,
+    pub scale: DecimalScale,
     pub middle: i64,
     pub unit: i64,
     /// Near 2^64 / unit.
@@ -44,7 +44,7 @@ fn nine_digits(n: i64) -> Option<(i64, i64)> {
 }
 
 /// The steps of 16 bits between the least and the greatest sample.
-pub(crate) fn steps_of(span: &Span) -> Option<Steps> {
+pub(crate) fn steps_of(span: &SampleSpan) -> Option<Steps> {
     let (low, high) = span.reach.ends()?;
     let least = (high.checked_sub(low)? / 65_533).checked_add(1)?;
     let (unit, power) = nine_digits(least)?;
@@ -75,7 +75,7 @@ fn ten_for(width: u64, steps: u64) -> Option<(u8, u64)>
 
 /// Steps of a power of ten: the least of which 32 bits hold all samples, from 0 where they can. Also
 /// whether all samples are whole numbers of them.
-pub(crate) fn long_steps_of(span: &Span) -> Option<(Steps, bool)> {
+pub(crate) fn long_steps_of(span: &SampleSpan) -> Option<(Steps, bool)> {
     let (low, high) = span.reach.ends()?;
     let (exponent, unit) = ten_for(high.abs_diff(low), 2 * ROOM - 2)?;
     let places = span.scale.shift.checked_sub(i32::from(exponent))?;
@@ -99,7 +99,7 @@ pub(crate) fn long_steps_of(span: &Span) -> Option<(Steps, bool)> {
 }
 
 /// The steps of which all samples are multiples, if there are any.
-pub(crate) fn exact_steps_of(span: &Span) -> Option<Steps> {
+pub(crate) fn exact_steps_of(span: &SampleSpan) -> Option<Steps> {
     let step = span.step?;
     let (low, high) = span.reach.ends()?;
     let count = high.abs_diff(low).checked_div(step)?;

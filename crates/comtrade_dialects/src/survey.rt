@@ -9,16 +9,16 @@ use crate::num::is_float_mark;
 use crate::numbers::Tick;
 use crate::packed_row::{Bytes, read_float_row};
 use crate::pair::Samples;
-use crate::row::{Cells, Counts, Packed, Plan, Rows, Step, Stop};
-use crate::span::{Bounds, Span};
+use crate::row::{Cells, Packed, RowCounts, RowStep, RowStop, RowsLeft, RowsPlan};
+use crate::span::{SampleSpan, WholeBounds};
 use crate::step_search::find_steps;
 use std::alloc::Allocator;
 
 /// What the first pass over the rows found.
 #[derive(Drop)]
-pub(crate) struct Survey<A: Allocator> {
+pub(crate) struct RowsSurvey<A: Allocator> {
     pub ticks: Vec<Tick, A>,
-    pub spans: Vec<Span, A>,
+    pub spans: Vec<SampleSpan, A>,
     pub has_stamp_point: bool,
     pub has_points: bool,
     pub is_cut: bool,
@@ -27,9 +27,9 @@ pub(crate) struct Survey<A: Allocator> {
 /// The context for reading rows.
 #[derive(Clone, Copy)]
 pub(crate) struct Ground<'a> {
-    pub plan: Plan<'a>,
-    pub counts: Counts,
-    pub bounds: Bounds,
+    pub plan: RowsPlan<'a>,
+    pub counts: RowCounts,
+    pub bounds: WholeBounds,
     pub samples: Samples,
     /// Ranges of whole numbers of 32 bits are usual.
     pub has_long_ranges: bool,
@@ -44,22 +44,22 @@ pub(crate) struct Ground<'a> {
 impl<'a> Ground<'a> {
     /// Whether the rows are text.
     pub(crate) fn is_text(&self) -> bool {
-        matches!(self.plan, Plan::Text(_, _))
+        matches!(self.plan, RowsPlan::Text(_, _))
     }
 
     /// The rows, where they are floats.
     pub(crate) fn floats(&self) -> Option<Packed<'a>> {
         match self.plan {
-            Plan::Packed(packed) if packed.form == Form::Float32 => Some(packed),
+            RowsPlan::Packed(packed) if packed.form == Form::Float32 => Some(packed),
             _ => None,
         }
     }
 }
 
-fn fault_of(place: u64, stop: Stop) -> ImportFault {
+fn fault_of(place: u64, stop: RowStop) -> ImportFault {
     match stop {
-        Stop::Memory => ImportFault::Memory,
-        Stop::Why(why) => ImportFault::Dat(place, why),
+        RowStop::Memory => ImportFault::Memory,
+        RowStop::Why(why) => ImportFault::Dat(place, why),
     }
 }
 
@@ -119,14 +119,14 @@ fn is_own_mark(ground: Ground<'_>, channel: usize, whole: Option<i64>) -> bool {
 /// The next row; marks of missing values are replaced by missing values.
 pub(crate) fn next_cells<A: Allocator + Copy>(
     ground: Ground<'_>,
-    rows: &mut Rows<'_>,
+    rows: &mut RowsLeft<'_>,
     cells: &mut Cells<A>,
-) -> Result<Step, ImportFault> {
+) -> Result<RowStep, ImportFault> {
     let step = match rows.step(cells, ground.counts, ground.unsigned) {
         Ok(step) => step,
         Err((place, stop)) => return Err(fault_of(place, stop)),
     };
-    if let Plan::Packed(_) = ground.plan {
+    if let RowsPlan::Packed(_) = ground.plan {
         return Ok(step);
     }
     let mut has_mark = false;
@@ -145,9 +145,9 @@ pub(crate) fn next_cells<A: Allocator + Copy>(
 }
 
 fn add_row<A: Allocator + Copy>(
-    survey: &mut Survey<A>,
+    survey: &mut RowsSurvey<A>,
     cells: &Cells<A>,
-    bounds: Bounds,
+    bounds: WholeBounds,
 ) -> Result<(), ImportFault> {
     survey.ticks.push(Tick {
         number: cells.number,
@@ -167,7 +167,7 @@ fn add_row<A: Allocator + Copy>(
 pub(crate) fn next_floats<'a, A: Allocator + Copy>(
     ground: Ground<'_>,
     packed: Packed<'a>,
-    rows: &mut Rows<'a>,
+    rows: &mut RowsLeft<'a>,
     cells: &mut Cells<A>,
 ) -> Result<Option<Bytes<'a>>, ImportFault> {
     let Some((number, row)) = rows.next_packed(packed) else {
@@ -185,10 +185,10 @@ fn look_at_floats<A: Allocator + Copy>(
     notes: &mut Notes<A>,
     ground: Ground<'_>,
     packed: Packed<'_>,
-    survey: &mut Survey<A>,
+    survey: &mut RowsSurvey<A>,
 ) -> Result<(), ImportFault> {
     let mut spans = float_spans(alloc, ground.counts.k)?;
-    let mut rows = Rows::of(Plan::Packed(packed));
+    let mut rows = RowsLeft::of(RowsPlan::Packed(packed));
     let mut cells = Cells::new(alloc);
     for number in 1..u64::MAX {
         let Some(mut values) = next_floats(ground, packed, &mut rows, &mut cells)? else {
@@ -215,25 +215,25 @@ fn look_at_rows<A: Allocator + Copy>(
     alloc: A,
     notes: &mut Notes<A>,
     ground: Ground<'_>,
-    survey: &mut Survey<A>,
+    survey: &mut RowsSurvey<A>,
 ) -> Result<(), ImportFault> {
     for _ in 0..ground.counts.k {
-        survey.spans.push(Span::new())?;
+        survey.spans.push(SampleSpan::new())?;
     }
-    let mut rows = Rows::of(ground.plan);
+    let mut rows = RowsLeft::of(ground.plan);
     let mut cells = Cells::new(alloc);
     for number in 1..u64::MAX {
         match next_cells(ground, &mut rows, &mut cells)? {
-            Step::Row(_) => {
+            RowStep::Row(_) => {
                 tell_row(notes, &cells, number)?;
                 add_row(survey, &cells, ground.bounds)?;
             }
-            Step::Cut(_) => {
+            RowStep::Cut(_) => {
                 notes.tell(Key::RowCut, Place::Row(number), &[])?;
                 survey.is_cut = true;
                 break;
             }
-            Step::End => break,
+            RowStep::End => break,
         }
     }
     widen_all(ground, survey, &mut cells)
@@ -244,8 +244,8 @@ pub(crate) fn survey_of<A: Allocator + Copy>(
     alloc: A,
     notes: &mut Notes<A>,
     ground: Ground<'_>,
-) -> Result<Survey<A>, ImportFault> {
-    let mut survey = Survey {
+) -> Result<RowsSurvey<A>, ImportFault> {
+    let mut survey = RowsSurvey {
         ticks: Vec::new(alloc),
         spans: Vec::new(alloc),
         has_stamp_point: false,
@@ -264,7 +264,7 @@ pub(crate) fn survey_of<A: Allocator + Copy>(
     Ok(survey)
 }
 
-fn any_open(spans: &[Span]) -> bool {
+fn any_open(spans: &[SampleSpan]) -> bool {
     spans.iter().any(|span| span.is_open())
 }
 
@@ -272,7 +272,7 @@ fn any_open(spans: &[Span]) -> bool {
 /// they are.
 fn widen_all<A: Allocator + Copy>(
     ground: Ground<'_>,
-    survey: &mut Survey<A>,
+    survey: &mut RowsSurvey<A>,
     cells: &mut Cells<A>,
 ) -> Result<(), ImportFault> {
     for span in survey.spans.iter_mut() {
@@ -281,7 +281,7 @@ fn widen_all<A: Allocator + Copy>(
     if !any_open(&survey.spans) {
         return Ok(());
     }
-    let mut rows = Rows::of(ground.plan);
+    let mut rows = RowsLeft::of(ground.plan);
     for _ in 0..survey.ticks.len() {
         let _ = next_cells(ground, &mut rows, cells)?;
         for (span, value) in survey.spans.iter_mut().zip(cells.values.iter()) {

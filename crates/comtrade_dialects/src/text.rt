@@ -1,8 +1,7 @@
 //! Pieces of text.
 
-use comtrade_letters::put_escaped;
-use comtrade_values::put;
 use std::alloc::{AllocError, Allocator};
+use std::fmt::Write;
 
 /// Whether each byte of a text is one of these.
 pub(crate) fn has_only(text: &[u8], bytes: &[u8]) -> bool {
@@ -99,46 +98,60 @@ fn is_hidden(letter: u32) -> bool {
 }
 
 /// Appends bytes, those outside printable ASCII as `\xNN`.
-fn put_bytes<A: Allocator>(out: &mut Vec<u8, A>, bytes: &[u8]) -> Result<(), AllocError> {
+fn push_bytes<A: Allocator>(out: &mut String<A>, bytes: &[u8]) -> Result<(), AllocError> {
     for b in bytes {
         if 32 <= *b && *b <= 126 {
-            out.push(*b)?;
+            out.push(char::from(*b))?;
         } else {
-            put_escaped(out, *b)?;
+            write!(out, "\\x{b:02x}")?;
         }
     }
     Ok(())
 }
 
-/// Appends a letter in UTF-8, its bytes as `\xNN` if it is hidden.
-fn put_letter<A: Allocator>(out: &mut Vec<u8, A>, letter: char) -> Result<(), AllocError> {
+/// Appends a letter, its bytes as `\xNN` if it is hidden.
+fn push_letter<A: Allocator>(out: &mut String<A>, letter: char) -> Result<(), AllocError> {
+    if !is_hidden(u32::from(letter)) {
+        return out.push(letter);
+    }
     let mut room = [0u8; 4];
     let text = letter.encode_utf8(&mut room);
-    if is_hidden(u32::from(letter)) {
-        put_bytes(out, text.as_bytes())
-    } else {
-        put(out, text)
+    push_bytes(out, text.as_bytes())
+}
+
+/// Appends so many letters of a text, or bytes where it is not UTF-8: letters that are seen, and all
+/// else as `\xNN`, so that texts that differ are shown differently. Returns whether there are more.
+fn push_first<A: Allocator>(
+    out: &mut String<A>,
+    text: &[u8],
+    most: usize,
+) -> Result<bool, AllocError> {
+    match str::from_utf8(text) {
+        Ok(letters) => {
+            for letter in letters.chars().take(most) {
+                push_letter(out, letter)?;
+            }
+            Ok(letters.chars().nth(most).is_some())
+        }
+        Err(_) => {
+            push_bytes(out, &text[..text.len().min(most)])?;
+            Ok(most < text.len())
+        }
     }
 }
 
-/// Appends a text in quotation marks as it stands: letters of UTF-8 that are seen, and all else as
-/// `\xNN`, so that texts that differ are quoted differently.
-pub(crate) fn put_quoted<A: Allocator>(
-    out: &mut Vec<u8, A>,
+/// Appends a text that need not be UTF-8, as people see it.
+pub(crate) fn push_shown<A: Allocator>(out: &mut String<A>, text: &[u8]) -> Result<(), AllocError> {
+    let _ = push_first(out, text, usize::MAX)?;
+    Ok(())
+}
+
+/// Appends a text in quotation marks, as it stands; of a long one its front, and three dots.
+pub(crate) fn push_quoted<A: Allocator>(
+    out: &mut String<A>,
     text: &[u8],
 ) -> Result<(), AllocError> {
-    put(out, "\"")?;
-    let is_long = match str::from_utf8(text) {
-        Ok(letters) => {
-            for letter in letters.chars().take(QUOTED) {
-                put_letter(out, letter)?;
-            }
-            letters.chars().nth(QUOTED).is_some()
-        }
-        Err(_) => {
-            put_bytes(out, &text[..text.len().min(QUOTED)])?;
-            QUOTED < text.len()
-        }
-    };
-    put(out, if is_long { "\"..." } else { "\"" })
+    out.push_str("\"")?;
+    let is_long = push_first(out, text, QUOTED)?;
+    out.push_str(if is_long { "\"..." } else { "\"" })
 }

@@ -3,7 +3,7 @@
 use crate::fault::Why;
 use crate::field::Fields;
 use crate::numeral::spelled_of;
-use crate::row::{Cells, Counts, Odd, Stop};
+use crate::row::{Cells, Odd, RowCounts, RowStop};
 use crate::text::has_only;
 use comtrade_values::bit_of;
 use std::alloc::Allocator;
@@ -50,7 +50,7 @@ fn push_value<A: Allocator>(
     cells: &mut Cells<A>,
     text: &[u8],
     lets_comma: bool,
-) -> Result<(), Stop> {
+) -> Result<(), RowStop> {
     match spelled_of(text, lets_comma) {
         Some(spelled) => {
             cells.odd.has_points = cells.odd.has_points || spelled.is_pointed;
@@ -64,7 +64,7 @@ fn push_value<A: Allocator>(
             cells.values.push(None)?;
             Ok(())
         }
-        None => Err(Stop::Why(Why::Value)),
+        None => Err(RowStop::Why(Why::Value)),
     }
 }
 
@@ -73,28 +73,28 @@ fn read_front<A: Allocator>(
     cells: &mut Cells<A>,
     fields: &mut Fields<'_>,
     lets_comma: bool,
-) -> Result<(), Stop> {
+) -> Result<(), RowStop> {
     let Some(number) = fields.next_field() else {
-        return Err(Stop::Why(Why::RowFields));
+        return Err(RowStop::Why(Why::RowFields));
     };
     match spelled_of(number, false) {
         None if number.is_empty() => cells.number = 0,
         Some(spelled) => match spelled.num.whole() {
             Some(n) => cells.number = n,
-            None => return Err(Stop::Why(Why::Value)),
+            None => return Err(RowStop::Why(Why::Value)),
         },
-        None => return Err(Stop::Why(Why::Value)),
+        None => return Err(RowStop::Why(Why::Value)),
     }
     let stamp = match fields.next_field() {
         Some(text) => text,
-        None => return Err(Stop::Why(Why::RowFields)),
+        None => return Err(RowStop::Why(Why::RowFields)),
     };
     cells.stamp = None;
     if stamp.is_empty() {
         return Ok(());
     }
     let Some(spelled) = spelled_of(stamp, lets_comma) else {
-        return Err(Stop::Why(Why::Value));
+        return Err(RowStop::Why(Why::Value));
     };
     cells.odd.has_stamp_point = spelled.is_pointed;
     cells.stamp = Some(spelled.num);
@@ -106,8 +106,8 @@ pub(crate) fn read_line<A: Allocator>(
     cells: &mut Cells<A>,
     line: &[u8],
     mark: u8,
-    counts: Counts,
-) -> Result<(), Stop> {
+    counts: RowCounts,
+) -> Result<(), RowStop> {
     cells.values.clear();
     cells.bits.clear();
     cells.odd = Odd::default();
@@ -115,17 +115,17 @@ pub(crate) fn read_line<A: Allocator>(
     read_front(cells, &mut fields, mark == b';')?;
     for _ in 0..counts.k {
         let Some(text) = fields.next_field() else {
-            return Err(Stop::Why(Why::RowFields));
+            return Err(RowStop::Why(Why::RowFields));
         };
         push_value(cells, text, mark == b';')?;
     }
     for _ in 0..counts.m {
         let Some(text) = fields.next_field() else {
-            return Err(Stop::Why(Why::RowFields));
+            return Err(RowStop::Why(Why::RowFields));
         };
         match bit_of(text) {
             Some(bit) => cells.bits.push(bit)?,
-            None => return Err(Stop::Why(Why::Bit)),
+            None => return Err(RowStop::Why(Why::Bit)),
         }
     }
     if !fields.has_more() {
@@ -135,6 +135,6 @@ pub(crate) fn read_line<A: Allocator>(
     if fields.is_empty_from_here() {
         Ok(())
     } else {
-        Err(Stop::Why(Why::RowFields))
+        Err(RowStop::Why(Why::RowFields))
     }
 }

@@ -17,6 +17,8 @@ use Rattle.comtrade_io.specs.declared.words.Compared.{Compared}
 use Rattle.comtrade_io.specs.Asking.{IsNewPair}
 use Rattle.comtrade_io.specs.declared.words.View.{View}
 use Rattle.comtrade_io.specs.declared.words.View.TheVariants as view
+use Rattle.comtrade_io.specs.declared.words.Batch.{Batch}
+use Rattle.comtrade_io.specs.declared.words.Batch.TheVariants as batch
 use Rattle.comtrade_io.specs.declared.words.Survey.{Survey}
 use Rattle.comtrade_io.specs.declared.words.Survey.TheVariants as survey
 use Rattle.comtrade_io.specs.declared.words.Asked.{Asked}
@@ -27,7 +29,7 @@ use Rattle.clap.specs.declared.error.kind.ErrorKind.{ErrorKind}
 use Rattle.clap.specs.declared.error.kind.ErrorKind.TheVariants.{OutOfMemory}
 use Rattle.clap.specs.Words.{IsAmong, Kinds, is_simple_and_free}
 use Rattle.comtrade_io.specs.Asking.{AnswersTo, AreNames, Asks, AsksAs, Does, DoneAbout, FitsNothing, IsCompared, IsConverted, Tells, is_text}
-use Rattle.comtrade_io.specs.Verbs.{survey_name, view_name}
+use Rattle.comtrade_io.specs.Verbs.{batch_name, survey_name, view_name}
 use Rattle.comtrade_io.specs.Commands.{IsCommand, IsKinded, program}
 
 -- what rows say is what the getters read
@@ -47,21 +49,26 @@ below m n e h = let lt : m < n = ltb-true m n h in absurd (omega arith)
 differ : (tells : Text → Bool) (s t : Text) → tells s ≡ true → tells t ≡ false → s ≡ t → ⊥
 differ tells s t is isnt e = absurd (let both : tells t ≡ true = ap tells (sym e) ∙ is in cc)
 
--- the second letter tells the commands over one pair and those over many pairs from all others; of `page` and `fault`, the first
+-- the first two letters tell the commands over one pair, those over each of many and those over all of them from the others
 abbrev is_view : Text → Bool
-is_view name = let c = get_or name 1 0 in (c == 97 && get_or name 0 0 == 112) || c == 101 || c == 104 || c == 108 || c == 115
+is_view name = let c = get_or name 0 0 in c == 115 || c == 100 || get_or name 1 0 == 115
+
+abbrev is_batch : Text → Bool
+is_batch name = let c = get_or name 0 0 in c == 112 || c == 109 || (c == 99 && get_or name 1 0 == 104)
 
 abbrev is_survey : Text → Bool
 is_survey name = let c = get_or name 1 0 in c == 105 || c == 118
 
 view_is : (v : View) → is_view (view_name v) ≡ true
 view_is view.Show = refl
-view_is view.Check = refl
 view_is view.Csv = refl
-view_is view.Plot = refl
-view_is view.Page = refl
-view_is view.Measure = refl
 view_is view.Detect = refl
+
+batch_is : (b : Batch) → (is_batch (batch_name b) ≡ true) × (is_view (batch_name b) ≡ false) × (is_survey (batch_name b) ≡ false)
+batch_is batch.Check = (refl, refl, refl)
+batch_is batch.Plot = (refl, refl, refl)
+batch_is batch.Page = (refl, refl, refl)
+batch_is batch.Measure = (refl, refl, refl)
 
 survey_is : (s : Survey) → (is_survey (survey_name s) ≡ true) × (is_view (survey_name s) ≡ false)
 survey_is survey.List = (refl, refl)
@@ -70,6 +77,12 @@ survey_is survey.Events = (refl, refl)
 -- no two commands have one name
 view_isnt : (v : View) (name : Text) → is_view name ≡ false → view_name v ≡ name → ⊥
 view_isnt v name other e = differ is_view (view_name v) name (view_is v) other e
+
+batch_isnt : (b : Batch) (name : Text) → is_batch name ≡ false → batch_name b ≡ name → ⊥
+batch_isnt b name other e = differ is_batch (batch_name b) name (batch_is b).0 other e
+
+batch_isnt_view : (b : Batch) (v : View) → batch_name b ≡ view_name v → ⊥
+batch_isnt_view b v e = view_isnt v (batch_name b) (batch_is b).1 (sym e)
 
 survey_isnt : (s : Survey) (name : Text) → is_survey name ≡ false → survey_name s ≡ name → ⊥
 survey_isnt s name other e = differ is_survey (survey_name s) name (survey_is s).0 other e
@@ -107,64 +120,89 @@ fault_isnt_compare e = below 99 102 (letter 0 _ _ (sym e)) refl
 fault_isnt_extract : codes "fault" ≡ codes "extract" → ⊥
 fault_isnt_extract e = below 101 102 (letter 0 _ _ (sym e)) refl
 
+report_isnt_convert : codes "report" ≡ codes "convert" → ⊥
+report_isnt_convert e = below 99 114 (letter 0 _ _ (sym e)) refl
+
+report_isnt_import : codes "report" ≡ codes "import" → ⊥
+report_isnt_import e = below 105 114 (letter 0 _ _ (sym e)) refl
+
+report_isnt_compare : codes "report" ≡ codes "compare" → ⊥
+report_isnt_compare e = below 99 114 (letter 0 _ _ (sym e)) refl
+
+report_isnt_extract : codes "report" ≡ codes "extract" → ⊥
+report_isnt_extract e = below 101 114 (letter 0 _ _ (sym e)) refl
+
 -- where the names of a pair don't fit, nothing that its command asks for does
 pub no_view : (r : List Row) (v : View) → ((names : Names) → AreNames r names → ⊥) → FitsNothing (Asks r (view_name v))
 no_view r v none (asks.View w viewed) h = none viewed.names h.1.names
+no_view r v none (asks.Batch b made) h = batch_isnt_view b v h.0
 no_view r v none (asks.Convert made) h = view_isnt v (codes "convert") refl (sym h.0)
 no_view r v none (asks.Import made) h = view_isnt v (codes "import") refl (sym h.0)
 no_view r v none (asks.Compare made) h = view_isnt v (codes "compare") refl (sym h.0)
 no_view r v none (asks.Fault made) h = view_isnt v (codes "fault") refl (sym h.0)
+no_view r v none (asks.Report made) h = view_isnt v (codes "report") refl (sym h.0)
 no_view r v none (asks.Extract folder) h = view_isnt v (codes "extract") refl (sym h.0)
 no_view r v none (asks.Survey s surveyed) h = survey_isnt_view s v h.0
 
 pub no_convert : (r : List Row) → ((names : Names) (name : Bor Text) → IsNewPair r names name.now → ⊥) → FitsNothing (Asks r (codes "convert"))
 no_convert r none (asks.View w viewed) h = view_isnt w (codes "convert") refl h.0
+no_convert r none (asks.Batch b made) h = batch_isnt b (codes "convert") refl h.0
 no_convert r none (asks.Convert made) h = none made.names made.name h.1.pair
 no_convert r none (asks.Import made) h = import_isnt_convert h.0
 no_convert r none (asks.Compare made) h = compare_isnt_convert h.0
 no_convert r none (asks.Fault made) h = fault_isnt_convert h.0
+no_convert r none (asks.Report made) h = report_isnt_convert h.0
 no_convert r none (asks.Extract folder) h = extract_isnt_convert h.0
 no_convert r none (asks.Survey s surveyed) h = survey_isnt s (codes "convert") refl h.0
 
 pub no_import : (r : List Row) → ((names : Names) (name : Bor Text) → IsNewPair r names name.now → ⊥) → FitsNothing (Asks r (codes "import"))
 no_import r none (asks.View w viewed) h = view_isnt w (codes "import") refl h.0
+no_import r none (asks.Batch b made) h = batch_isnt b (codes "import") refl h.0
 no_import r none (asks.Convert made) h = import_isnt_convert (sym h.0)
 no_import r none (asks.Import made) h = none made.names made.name h.1.pair
 no_import r none (asks.Compare made) h = import_isnt_compare (sym h.0)
 no_import r none (asks.Fault made) h = fault_isnt_import h.0
+no_import r none (asks.Report made) h = report_isnt_import h.0
 no_import r none (asks.Extract folder) h = import_isnt_extract (sym h.0)
 no_import r none (asks.Survey s surveyed) h = survey_isnt s (codes "import") refl h.0
 
 pub no_compare : (r : List Row) → ((made : Compared) → IsCompared r made → ⊥) → FitsNothing (Asks r (codes "compare"))
 no_compare r none (asks.View w viewed) h = view_isnt w (codes "compare") refl h.0
+no_compare r none (asks.Batch b made) h = batch_isnt b (codes "compare") refl h.0
 no_compare r none (asks.Convert made) h = compare_isnt_convert (sym h.0)
 no_compare r none (asks.Import made) h = import_isnt_compare h.0
 no_compare r none (asks.Compare made) h = none made h.1
 no_compare r none (asks.Fault made) h = fault_isnt_compare h.0
+no_compare r none (asks.Report made) h = report_isnt_compare h.0
 no_compare r none (asks.Extract folder) h = extract_isnt_compare h.0
 no_compare r none (asks.Survey s surveyed) h = survey_isnt s (codes "compare") refl h.0
 
 pub no_extract : (r : List Row) → None ≡ first_of (codes "DIR") r → FitsNothing (Asks r (codes "extract"))
 no_extract r none (asks.View w viewed) h = view_isnt w (codes "extract") refl h.0
+no_extract r none (asks.Batch b made) h = batch_isnt b (codes "extract") refl h.0
 no_extract r none (asks.Convert made) h = extract_isnt_convert (sym h.0)
 no_extract r none (asks.Import made) h = import_isnt_extract h.0
 no_extract r none (asks.Compare made) h = extract_isnt_compare (sym h.0)
 no_extract r none (asks.Fault made) h = fault_isnt_extract h.0
+no_extract r none (asks.Report made) h = report_isnt_extract h.0
 no_extract r none (asks.Extract folder) h = absurd (let e = none ∙ h.1 in cc)
 no_extract r none (asks.Survey s surveyed) h = survey_isnt s (codes "extract") refl h.0
 
 -- nor where no command has the name
-pub no_command : (r : List Row) (verb : Text) → ((v : View) → view_name v ≡ verb → ⊥) → ((s : Survey) → survey_name s ≡ verb → ⊥)
+pub no_command : (r : List Row) (verb : Text) → ((v : View) → view_name v ≡ verb → ⊥) → ((b : Batch) → batch_name b ≡ verb → ⊥)
+    → ((s : Survey) → survey_name s ≡ verb → ⊥)
     → (codes "convert" ≡ verb → ⊥) → (codes "import" ≡ verb → ⊥) → (codes "compare" ≡ verb → ⊥) → (codes "fault" ≡ verb → ⊥)
-    → (codes "extract" ≡ verb → ⊥)
+    → (codes "report" ≡ verb → ⊥) → (codes "extract" ≡ verb → ⊥)
     → FitsNothing (Asks r verb)
-no_command r verb view survey convert importing compare fault extract (asks.View w viewed) h = view w h.0
-no_command r verb view survey convert importing compare fault extract (asks.Convert made) h = convert h.0
-no_command r verb view survey convert importing compare fault extract (asks.Import made) h = importing h.0
-no_command r verb view survey convert importing compare fault extract (asks.Compare made) h = compare h.0
-no_command r verb view survey convert importing compare fault extract (asks.Fault made) h = fault h.0
-no_command r verb view survey convert importing compare fault extract (asks.Extract folder) h = extract h.0
-no_command r verb view survey convert importing compare fault extract (asks.Survey s surveyed) h = survey s h.0
+no_command r verb view batch survey convert importing compare fault report extract (asks.View w viewed) h = view w h.0
+no_command r verb view batch survey convert importing compare fault report extract (asks.Batch b made) h = batch b h.0
+no_command r verb view batch survey convert importing compare fault report extract (asks.Convert made) h = convert h.0
+no_command r verb view batch survey convert importing compare fault report extract (asks.Import made) h = importing h.0
+no_command r verb view batch survey convert importing compare fault report extract (asks.Compare made) h = compare h.0
+no_command r verb view batch survey convert importing compare fault report extract (asks.Fault made) h = fault h.0
+no_command r verb view batch survey convert importing compare fault report extract (asks.Report made) h = report h.0
+no_command r verb view batch survey convert importing compare fault report extract (asks.Extract folder) h = extract h.0
+no_command r verb view batch survey convert importing compare fault report extract (asks.Survey s surveyed) h = survey s h.0
 
 -- a name and rows that are those of what a parse met
 pair : (o : Option (Text × List Row)) (verb : Text) (r : List Row) → Some verb ≡ option_map (λ p. p.0) o → Some r ≡ option_map (λ p. p.1) o → o ≡ Some (verb, r)

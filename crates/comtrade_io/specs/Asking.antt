@@ -12,17 +12,20 @@ use Rattle.comtrade_io.specs.declared.words.Picture.{Picture}
 use Rattle.comtrade_io.specs.declared.words.Cursor.{Cursor}
 use Rattle.comtrade_io.specs.declared.words.View.{View}
 use Rattle.comtrade_io.specs.declared.words.Viewed.{Viewed}
+use Rattle.comtrade_io.specs.declared.words.Batch.{Batch}
+use Rattle.comtrade_io.specs.declared.words.Batched.{Batched}
 use Rattle.comtrade_io.specs.declared.words.Converted.{Converted}
 use Rattle.comtrade_io.specs.declared.words.Importing.{Importing}
 use Rattle.comtrade_io.specs.declared.words.Compared.{Compared}
 use Rattle.comtrade_io.specs.declared.words.Diagnosed.{Diagnosed}
+use Rattle.comtrade_io.specs.declared.words.Reported.{Reported}
 use Rattle.comtrade_io.specs.declared.words.Survey.{Survey}
 use Rattle.comtrade_io.specs.declared.words.Surveyed.{Surveyed}
 use Rattle.comtrade_io.specs.declared.words.Asked.{Asked}
 use Rattle.comtrade_io.specs.declared.words.Asked.TheVariants as asks
 use Rattle.comtrade_io.specs.declared.command_line.asked.Answer.{Answer}
 use Rattle.comtrade_io.specs.declared.command_line.asked.Answer.TheVariants.{Do, Print, Refuse}
-use Rattle.comtrade_io.specs.Verbs.{view_name, survey_name, data_name, pair_name}
+use Rattle.comtrade_io.specs.Verbs.{view_name, batch_name, survey_name, data_name, pair_name}
 use Rattle.comtrade_io.specs.Commands.{AreKinds, program}
 
 -- the text that was given for an argument, if any was
@@ -78,8 +81,6 @@ pub record IsViewed (rows : List Row) (v : Viewed) : Type 0 where
   pub names : AreNames rows v.names
   pub part : ArePart rows v.part
   pub form : AreForm rows v.form
-  pub picture : ArePicture rows v.picture
-  pub cursor : AreCursor rows v.cursor
   pub lines : IsOption rows (codes "LINES") v.lines
   pub json : IsFlag rows (codes "json") v.json
   pub output : IsOption rows (codes "output") v.output
@@ -110,6 +111,8 @@ pub record IsCompared (rows : List Row) (made : Compared) : Type 0 where
   pub one : first_of (codes "A") rows ≡ Some made.one.now
   pub other : first_of (codes "B") rows ≡ Some made.other.now
   pub by : IsOption rows (codes "by") made.by
+  pub shift : IsOption rows (codes "shift") made.shift
+  pub pairs : IsOption rows (codes "map") made.pairs
   pub part : ArePart rows made.part
   pub picture : ArePicture rows made.picture
   pub output : IsOption rows (codes "output") made.output
@@ -118,12 +121,29 @@ pub record IsCompared (rows : List Row) (made : Compared) : Type 0 where
 abbrev pub AreAll : List Row → List Text → Type 0
 AreAll rows names = names ≡ unwrap_or (all_of (codes "NAMES") rows) []
 
+-- records, a part of each, and what is printed of it
+pub record IsBatched (rows : List Row) (made : Batched) : Type 0 where
+  pub names : AreAll rows (map (λ s. s.now) made.names.items)
+  pub recursive : IsFlag rows (codes "recursive") made.recursive
+  pub part : ArePart rows made.part
+  pub picture : ArePicture rows made.picture
+  pub cursor : AreCursor rows made.cursor
+  pub json : IsFlag rows (codes "json") made.json
+  pub output : IsOption rows (codes "output") made.output
+
 -- records whose faults are told, and how
 pub record IsDiagnosed (rows : List Row) (made : Diagnosed) : Type 0 where
   pub names : AreAll rows (map (λ s. s.now) made.names.items)
   pub recursive : IsFlag rows (codes "recursive") made.recursive
   pub long : IsFlag rows (codes "long") made.long
   pub json : IsFlag rows (codes "json") made.json
+  pub encoding : IsOption rows (codes "encoding") made.encoding
+  pub output : IsOption rows (codes "output") made.output
+
+-- records of which a report is made
+pub record IsReported (rows : List Row) (made : Reported) : Type 0 where
+  pub names : AreAll rows (map (λ s. s.now) made.names.items)
+  pub recursive : IsFlag rows (codes "recursive") made.recursive
   pub encoding : IsOption rows (codes "encoding") made.encoding
   pub output : IsOption rows (codes "output") made.output
 
@@ -144,10 +164,12 @@ pub record IsSurveyed (rows : List Row) (made : Surveyed) : Type 0 where
 -- what a command asks for, by the words that were given for its arguments
 abbrev pub Asks : List Row → Text → Asked → Type 0
 Asks rows verb (asks.View v viewed) = (view_name v ≡ verb) × IsViewed rows viewed
+Asks rows verb (asks.Batch b made) = (batch_name b ≡ verb) × IsBatched rows made
 Asks rows verb (asks.Convert made) = (codes "convert" ≡ verb) × IsConverted rows made
 Asks rows verb (asks.Import made) = (codes "import" ≡ verb) × IsImporting rows made
 Asks rows verb (asks.Compare made) = (codes "compare" ≡ verb) × IsCompared rows made
 Asks rows verb (asks.Fault made) = (codes "fault" ≡ verb) × IsDiagnosed rows made
+Asks rows verb (asks.Report made) = (codes "report" ≡ verb) × IsReported rows made
 Asks rows verb (asks.Extract folder) = (codes "extract" ≡ verb) × (first_of (codes "DIR") rows ≡ Some folder.now)
 Asks rows verb (asks.Survey s made) = (survey_name s ≡ verb) × IsSurveyed rows made
 

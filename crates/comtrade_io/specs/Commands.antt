@@ -91,20 +91,8 @@ over_part name = with_part (over_pair name)
 abbrev pub show : App
 show = with_output (with_json (over_part (codes "show")))
 
-abbrev pub check : App
-check = with_output (with_json (over_pair (codes "check")))
-
 abbrev pub csv : App
 csv = with_output (with_table (over_part (codes "csv")))
-
-abbrev pub plot : App
-plot = with_output (with_picture (over_part (codes "plot")))
-
-abbrev pub page : App
-page = with_output (over_part (codes "page"))
-
-abbrev pub measure : App
-measure = with_output (with_json (with_cursor (over_part (codes "measure"))))
 
 -- a file of detectors, and a pair
 abbrev pub detect_lines : App
@@ -141,6 +129,23 @@ extract = with_rule (new_app (codes "extract")) (word (codes "DIR"))
 abbrev pub named : Text → App
 named name = with_rule (with_rule (new_app name) (words (codes "NAMES"))) recursive
 
+-- the same over a part of each record
+abbrev pub over_parts : Text → App
+over_parts name = with_part (named name)
+
+-- the commands that print something of each record
+abbrev pub check : App
+check = with_output (with_json (named (codes "check")))
+
+abbrev pub plot : App
+plot = with_output (with_picture (over_parts (codes "plot")))
+
+abbrev pub page : App
+page = with_output (over_parts (codes "page"))
+
+abbrev pub measure : App
+measure = with_output (with_json (with_cursor (over_parts (codes "measure"))))
+
 -- which records and events are meant: those of some time, and of some stations
 abbrev pub with_filter : App → App
 with_filter a = with_rule (with_rule (with_rule a
@@ -164,10 +169,14 @@ fault_names = with_rule (named (codes "fault")) (flag (codes "long"))
 abbrev pub fault : App
 fault = with_output (with_encoding (with_json fault_names))
 
+-- a report on many records
+abbrev pub report : App
+report = with_output (with_encoding (named (codes "report")))
+
 -- two records
 abbrev pub compare_names : App
-compare_names = with_rule (with_rule (with_rule (new_app (codes "compare"))
-    (word (codes "A"))) (word (codes "B"))) (option (codes "by"))
+compare_names = with_rule (with_rule (with_rule (with_rule (with_rule (new_app (codes "compare"))
+    (word (codes "A"))) (word (codes "B"))) (option (codes "by"))) (option (codes "shift"))) (option (codes "map"))
 
 abbrev pub compare : App
 compare = with_output (with_picture (with_part compare_names))
@@ -193,8 +202,8 @@ views a = with_subcommand (with_subcommand (with_subcommand (with_subcommand (wi
     show.top) check.top) csv.top) plot.top) page.top
 
 abbrev pub surveys : App → App
-surveys a = with_subcommand (with_subcommand (with_subcommand (with_subcommand a
-    list.top) events.top) fault.top) compare.top
+surveys a = with_subcommand (with_subcommand (with_subcommand (with_subcommand (with_subcommand a
+    list.top) events.top) fault.top) report.top) compare.top
 
 abbrev pub program : Bor (List (Bor (List ℕ))) → App
 program kinds = with_subcommand (with_subcommand (with_subcommand (with_subcommand (with_subcommand (surveys (views top))

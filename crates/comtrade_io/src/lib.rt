@@ -22,6 +22,6 @@ pub use seen::seen_len;
 pub use text::{kind_name, put_quoted, put_safe};
 pub use version::VERSION;
 pub use words::{
-    Asked, Compared, Converted, Cursor, Diagnosed, Form, Importing, Names, Part, Picture, Survey,
-    Surveyed, View, Viewed, new_names, survey_of, view_of,
+    Asked, Batch, Batched, Compared, Converted, Cursor, Diagnosed, Form, Importing, Names, Part,
+    Picture, Reported, Survey, Surveyed, View, Viewed, batch_of, new_names, survey_of, view_of,
 };

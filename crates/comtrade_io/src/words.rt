@@ -61,18 +61,23 @@ pub struct Cursor<'a> {
 pub enum View {
     /// What is in it.
     Show,
-    /// Its first fault.
-    Check,
     /// Its rows as comma-separated values.
     Csv,
+    /// When detectors fire on it.
+    Detect,
+}
+
+/// The commands that do the same to each of many records.
+#[derive(Clone, Copy, Debug, PartialEq, Eq)]
+pub enum Batch {
+    /// Its first fault.
+    Check,
     /// A picture of it.
     Plot,
     /// A page that shows it in a browser.
     Page,
     /// What is measured in it.
     Measure,
-    /// When detectors fire on it.
-    Detect,
 }
 
 /// How a picture is drawn, its sizes as texts that are not parsed yet.
@@ -96,8 +101,6 @@ pub struct Viewed<'a> {
     pub names: Names<'a>,
     pub part: Part<'a>,
     pub form: Form<'a>,
-    pub picture: Picture<'a>,
-    pub cursor: Cursor<'a>,
     /// The file of detectors.
     pub lines: Option<&'a str>,
     /// As JSON.
@@ -130,13 +133,17 @@ pub struct Importing<'a> {
     pub name: &'a str,
 }
 
-/// Two records, and how they are laid beside each other: by the instants of their rows or by their triggers, as a text that isn't parsed
-/// yet. The part is the first one's; the side of the transformers and how files are read are those of both.
+/// Two records, and how they are laid beside each other, as texts that aren't parsed yet: by the instants of their rows, by their triggers or
+/// by their faults. The part is the first one's; the side of the transformers and how files are read are those of both.
 #[derive(Clone, Copy, Debug)]
 pub struct Compared<'a> {
     pub one: &'a str,
     pub other: &'a str,
     pub by: Option<&'a str>,
+    /// How far the second record is moved, in milliseconds.
+    pub shift: Option<&'a str>,
+    /// Channels of the first one, and those of the second that they are compared with.
+    pub pairs: Option<&'a str>,
     pub part: Part<'a>,
     pub picture: Picture<'a>,
     /// The file that is written in place of standard output.
@@ -156,6 +163,34 @@ pub struct Diagnosed<'a> {
     /// How names are spelled that aren't ASCII.
     pub encoding: Option<&'a str>,
     /// The file that is written in place of standard output.
+    pub output: Option<&'a str>,
+}
+
+/// Records of which a report is made: those of these names, and those in folders of these names.
+#[derive(Debug, Drop)]
+pub struct Reported<'a> {
+    pub names: Vec<&'a str>,
+    /// Also the records of folders within folders.
+    pub recursive: bool,
+    /// How names are spelled that aren't ASCII.
+    pub encoding: Option<&'a str>,
+    /// The file that is written in place of standard output.
+    pub output: Option<&'a str>,
+}
+
+/// Records: those of these names, and those in folders of these names, or the two files of one; and what is printed of each. An option
+/// that a command doesn't have is none.
+#[derive(Debug, Drop)]
+pub struct Batched<'a> {
+    pub names: Vec<&'a str>,
+    /// Also the records of folders within folders.
+    pub recursive: bool,
+    pub part: Part<'a>,
+    pub picture: Picture<'a>,
+    pub cursor: Cursor<'a>,
+    /// As JSON.
+    pub json: bool,
+    /// The file that is written in place of standard output, or the folder of the files.
     pub output: Option<&'a str>,
 }
 
@@ -198,6 +233,8 @@ pub enum Survey {
 pub enum Asked<'a> {
     /// What is in a pair.
     View(View, Viewed<'a>),
+    /// What is printed of each of many records.
+    Batch(Batch, Batched<'a>),
     /// A pair as a pair of another kind, with this name.
     Convert(Converted<'a>),
     /// Files of other makers and years as a pair of 1999.
@@ -206,6 +243,8 @@ pub enum Asked<'a> {
     Compare(Compared<'a>),
     /// The faults of many records.
     Fault(Diagnosed<'a>),
+    /// A report on many records.
+    Report(Reported<'a>),
     /// The pairs that a replay printed, into a folder.
     Extract(&'a str),
     /// What is in many pairs.
@@ -218,12 +257,22 @@ pub fn view_of(verb: &str) -> Option<View>
 {
     match verb {
         "show" => Some(View::Show),
-        "check" => Some(View::Check),
         "csv" => Some(View::Csv),
-        "plot" => Some(View::Plot),
-        "page" => Some(View::Page),
-        "measure" => Some(View::Measure),
         "detect" => Some(View::Detect),
+        _ => None,
+    }
+}
+
+/// The command over each of many records that is called so.
+pub fn batch_of(verb: &str) -> Option<Batch>
+    ensures { MatchOption result ((batch : Batch) → verbs.batch_name batch ≡ verb.now → ⊥)
+        (λ batch. verbs.batch_name batch ≡ verb.now) }
+{
+    match verb {
+        "check" => Some(Batch::Check),
+        "plot" => Some(Batch::Plot),
+        "page" => Some(Batch::Page),
+        "measure" => Some(Batch::Measure),
         _ => None,
     }
 }

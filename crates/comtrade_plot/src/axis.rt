@@ -2,7 +2,7 @@
 
 ghost use Rattle.std.specs.Prelude.{◌≤◌, ◌+◌};
 
-use crate::gaps::Gap;
+use crate::gaps::TimeGap;
 use crate::instant::{TimeUnit, put_duration, time_unit};
 use crate::layout::{Band, Chart};
 use crate::legend::NAMES;
@@ -110,7 +110,7 @@ pub(crate) fn put_trigger<A: Allocator>(sheet: &mut Sheet<A>, chart: &Chart<'_, 
 }
 
 /// Where a gap begins, and the width it is drawn with: at least a pixel.
-fn drawn_gap(frame: Frame, gap: Gap) -> (u32, u32)
+fn drawn_gap(frame: Frame, gap: TimeGap) -> (u32, u32)
     ensures left { 760 ≤ result.0 }
     ensures right { result.0 + 10 ≤ 9160 }
     ensures width { result.1 ≤ 8410 }

@@ -40,12 +40,12 @@ pub(crate) fn write_block<A: Allocator + Copy, W: Write>(
 /// A channel's samples as little-endian integers of 16 or 32 bits. The least number stands for a
 /// missing sample, and for one that does not fit.
 #[derive(Drop)]
-pub(crate) struct Samples<A: Allocator> {
+pub(crate) struct SampleBlocks<A: Allocator> {
     pub(crate) bytes: Vec<u8, A>,
     pub(crate) is_wide: bool,
 }
 
-impl<A: Allocator> Samples<A> {
+impl<A: Allocator> SampleBlocks<A> {
     fn add(&mut self, reading: Reading) -> Result<(), AllocError> {
         let sample = match reading {
             Reading::Value(sample) => sample,
@@ -63,7 +63,7 @@ impl<A: Allocator> Samples<A> {
 
 /// Adds the samples of consecutive channels, from this one on, in one pass over the rows.
 pub(crate) fn gather_samples<A: Allocator>(
-    channels: &mut [Samples<A>],
+    channels: &mut [SampleBlocks<A>],
     rows: &[Row<A>],
     first: usize,
 ) -> Result<(), AllocError> {

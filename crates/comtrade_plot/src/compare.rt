@@ -11,18 +11,20 @@ use crate::layers::Layer;
 use crate::layout::panel_count;
 use crate::plan::{Down, LEFT, course_of, partners_of, places_of};
 use crate::plot::PlotOptions;
-use crate::record::{Part, Record, Timed, chart_of, part_in, record_of};
+use crate::record::{DrawnPart, DrawnRecord, Timed, chart_of, part_in, record_of};
 use crate::sheet::Sheet;
 use comtrade_format::File;
 use comtrade_io::ToolFault;
 use std::alloc::Allocator;
 use std::io::Write;
 
-/// How two records are aligned: by the instants of their rows, or by their triggers.
+/// How two records are aligned: by the instants of their rows, by their triggers, or by their faults,
+/// which fall together where the second trigger is so many nanoseconds after the first.
 #[derive(Clone, Copy, Debug, PartialEq, Eq)]
 pub enum By {
     Instant,
     Trigger,
+    Fault(i64),
 }
 
 /// How two records are drawn. `is_chosen`: the first record's channels were chosen by the user, so
@@ -30,6 +32,8 @@ pub enum By {
 #[derive(Clone, Copy, Debug)]
 pub struct CompareOptions {
     pub by: By,
+    /// How many nanoseconds the second record is moved then.
+    pub moved: i64,
     pub picture: PlotOptions,
     pub is_chosen: bool,
 }
@@ -65,7 +69,7 @@ impl Refusal {
 /// The vertical positions of the names, the panels, both groups of status channels and the times
 /// below.
 #[derive(Clone, Copy)]
-struct Places {
+struct RecordPlaces {
     names: Down,
     panels: Down,
     contacts: Down,
@@ -73,13 +77,17 @@ struct Places {
     times: Down,
 }
 
-fn places_in<A: Allocator>(beside: &Beside<'_, A>, bars: &[bool], other_bars: &[bool]) -> Places {
+fn places_in<A: Allocator>(
+    beside: &Beside<'_, A>,
+    bars: &[bool],
+    other_bars: &[bool],
+) -> RecordPlaces {
     let names = Down::at(1380);
     let panels = names.below(40);
     let contacts = pairs_end(beside, panels).below(120);
     let others = contacts.after(contacts_height(beside.one, bars));
     let end = others.after(contacts_height(beside.other, other_bars));
-    Places {
+    RecordPlaces {
         names,
         panels,
         contacts,
@@ -89,7 +97,7 @@ fn places_in<A: Allocator>(beside: &Beside<'_, A>, bars: &[bool], other_bars: &[
 }
 
 /// The times above and below, the cycles, and the lengths of gaps.
-fn put_scales<A: Allocator>(sheet: &mut Sheet<A>, beside: &Beside<'_, A>, places: Places) {
+fn put_scales<A: Allocator>(sheet: &mut Sheet<A>, beside: &Beside<'_, A>, places: RecordPlaces) {
     let one = beside.one;
     put_gap_names(sheet, one, places.names.above(150));
     put_times(sheet, one, places.names);
@@ -144,8 +152,8 @@ fn put_over<'a, A: Allocator + Copy>(
     alloc: A,
     sheet: &mut Sheet<A>,
     files: (&'a File<A>, &'a File<A>),
-    records: (&'a Record<A>, &'a Record<A>),
-    parts: (&'a Part<A>, &'a Part<A>),
+    records: (&'a DrawnRecord<A>, &'a DrawnRecord<A>),
+    parts: (&'a DrawnPart<A>, &'a DrawnPart<A>),
     is_part: bool,
     options: CompareOptions,
 ) -> Result<(), ToolFault> {
@@ -163,6 +171,7 @@ fn put_over<'a, A: Allocator + Copy>(
         most: records.0.cycle_or_usual().nanos.unsigned_abs() / 8,
         laid: Laid {
             by: options.by,
+            moved: options.moved,
             is_part,
             is_whole: options.picture.is_whole,
         },
@@ -170,13 +179,15 @@ fn put_over<'a, A: Allocator + Copy>(
     put_picture(sheet, &beside, options)
 }
 
-/// How many nanoseconds the second trigger is after the first, where the records are aligned by
-/// their instants; None where that is no number of 64 bits, more than 292 years.
-fn shift_of(by: By, from: i64, to: i64) -> Option<i64> {
-    match by {
-        By::Trigger => Some(0),
-        By::Instant => to.checked_sub(from)?.checked_mul(1000),
-    }
+/// How many nanoseconds the second trigger is drawn after the first, where their instants are these
+/// microseconds; None where that is no number of 64 bits, more than 292 years.
+fn shift_of(options: CompareOptions, from: i64, to: i64) -> Option<i64> {
+    let shift = match options.by {
+        By::Trigger => 0,
+        By::Instant => to.checked_sub(from)?.checked_mul(1000)?,
+        By::Fault(shift) => shift,
+    };
+    shift.checked_add(options.moved)
 }
 
 /// Prints a picture of two records; or returns why they cannot be compared, and prints nothing.
@@ -195,7 +206,7 @@ pub fn compare_over<A: Allocator + Copy, W: Write>(
         (_, 0) => return Ok(Some(Refusal::UntriggeredOther)),
         _ => {}
     }
-    let Some(shift) = shift_of(options.by, from, to) else {
+    let Some(shift) = shift_of(options, from, to) else {
         return Ok(Some(Refusal::Apart));
     };
     let mut first = record_of(alloc, one)?;
@@ -214,7 +225,7 @@ pub fn compare_over<A: Allocator + Copy, W: Write>(
 fn draw<A: Allocator + Copy, W: Write>(
     alloc: A,
     files: (&File<A>, &File<A>),
-    records: (&Record<A>, &Record<A>),
+    records: (&DrawnRecord<A>, &DrawnRecord<A>),
     options: CompareOptions,
     w: &mut W,
 ) -> Result<Option<Refusal>, ToolFault> {

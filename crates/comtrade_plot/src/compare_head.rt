@@ -44,25 +44,37 @@ fn put_record<A: Allocator>(sheet: &mut Sheet<A>, chart: &Chart<'_, A>, letter: 
     put_facts(sheet, file, y.below(160));
 }
 
+/// Where the trigger of B is drawn.
+fn put_shift<A: Allocator>(sheet: &mut Sheet<A>, shift: i64) {
+    sheet.text(": the trigger of B is ");
+    if shift == 0 {
+        sheet.text("at the same instant");
+    } else {
+        put_duration(sheet, shift.unsigned_abs());
+        sheet.text(if shift < 0 {
+            " before that of A"
+        } else {
+            " after that of A"
+        });
+    }
+}
+
 /// How the records are aligned.
 fn put_alignment<A: Allocator>(sheet: &mut Sheet<A>, beside: &Beside<'_, A>, y: Down) {
     sheet.begin_text(LEFT, y, SMALL);
-    let shift = beside.other.trigger;
-    match beside.laid.by {
-        By::Trigger => sheet.text("aligned by trigger"),
-        By::Instant => {
-            sheet.text("aligned by instant: the trigger of B is ");
-            if shift == 0 {
-                sheet.text("at the same instant");
-            } else {
-                put_duration(sheet, shift.unsigned_abs());
-                sheet.text(if shift < 0 {
-                    " before that of A"
-                } else {
-                    " after that of A"
-                });
-            }
-        }
+    let (shift, moved) = (beside.other.trigger, beside.laid.moved);
+    sheet.text(match beside.laid.by {
+        By::Trigger => "aligned by trigger",
+        By::Instant => "aligned by instant",
+        By::Fault(_) => "aligned by the first fault of each",
+    });
+    if beside.laid.by != By::Trigger || moved != 0 {
+        put_shift(sheet, shift);
+    }
+    if moved != 0 {
+        sheet.text("; B was moved ");
+        put_duration(sheet, moved.unsigned_abs());
+        sheet.text(if moved < 0 { " back" } else { " ahead" });
     }
     sheet.end_text();
 }

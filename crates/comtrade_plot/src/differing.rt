@@ -12,6 +12,8 @@ use std::alloc::Allocator;
 #[derive(Clone, Copy)]
 pub(crate) struct Laid {
     pub(crate) by: By,
+    /// How many nanoseconds the second record was moved.
+    pub(crate) moved: i64,
     pub(crate) is_part: bool,
     pub(crate) is_whole: bool,
 }

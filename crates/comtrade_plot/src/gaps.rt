@@ -8,18 +8,18 @@ use std::alloc::Allocator;
 
 /// Rows that were lost between two times, and their number.
 #[derive(Clone, Copy)]
-pub(crate) struct Gap {
+pub(crate) struct TimeGap {
     pub(crate) from: i64,
     pub(crate) to: i64,
     pub(crate) rows: u64,
 }
 
-impl Gap {
+impl TimeGap {
     /// A gap without rows so far, after a row of this time.
-    fn after(time: i64) -> Gap
+    fn after(time: i64) -> TimeGap
         ensures { result.rows ≡ 0 }
     {
-        Gap {
+        TimeGap {
             from: time,
             to: time,
             rows: 0,
@@ -27,13 +27,13 @@ impl Gap {
     }
 
     /// The gap when it ends at a time, clipped to the frame; None where nothing is left.
-    fn up_to(self, frame: Frame, to: i64) -> Option<Gap> {
+    fn up_to(self, frame: Frame, to: i64) -> Option<TimeGap> {
         let from = self.from.max(frame.from);
         let to = to.min(frame.to);
         if self.rows == 0 || to <= from {
             return None;
         }
-        Some(Gap { from, to, ..self })
+        Some(TimeGap { from, to, ..self })
     }
 }
 
@@ -42,9 +42,9 @@ pub(crate) fn gaps_of<A: Allocator + Copy>(
     alloc: A,
     frame: Frame,
     kept: &[Option<i64>],
-) -> Result<Vec<Gap, A>, ToolFault> {
+) -> Result<Vec<TimeGap, A>, ToolFault> {
     let mut gaps = Vec::new(alloc);
-    let mut begun = Gap::after(frame.from);
+    let mut begun = TimeGap::after(frame.from);
     for time in kept {
         match *time {
             None => begun.rows += 1,
@@ -52,7 +52,7 @@ pub(crate) fn gaps_of<A: Allocator + Copy>(
                 if let Some(gap) = begun.up_to(frame, time) {
                     gaps.push(gap)?;
                 }
-                begun = Gap::after(time);
+                begun = TimeGap::after(time);
             }
         }
     }

@@ -4,7 +4,7 @@ ghost use Rattle.std.specs.Prelude.{◌≡◌, length, IfOk};
 
 use crate::names::{Likeness, likeness_of};
 use crate::phases::{Hue, other_hue, phase_hue};
-use crate::survey::Survey;
+use crate::survey::ChannelSpan;
 use comtrade_format::Scale;
 use comtrade_io::ToolFault;
 use dfr_channels::AnalogChannel;
@@ -27,7 +27,7 @@ struct Bunch {
 const NOISE: i64 = 10;
 
 /// The range of a channel's values in its unit, if it is more than noise.
-fn extent_of(survey: Survey, scale: Scale) -> Option<f64> {
+fn extent_of(survey: ChannelSpan, scale: Scale) -> Option<f64> {
     let (least, greatest) = survey.bounds?;
     if i64::from(greatest) - i64::from(least) < NOISE {
         return None;
@@ -149,7 +149,7 @@ fn settle<A: Allocator, B: Allocator>(
 
 fn newcomer_of<'a, A: Allocator>(
     channel: &'a AnalogChannel<A>,
-    survey: Option<&Survey>,
+    survey: Option<&ChannelSpan>,
     scale: Option<&Scale>,
 ) -> Newcomer<'a, A> {
     let extent = match (survey, scale) {
@@ -168,7 +168,7 @@ fn newcomer_of<'a, A: Allocator>(
 pub(crate) fn panels_of<A: Allocator + Copy>(
     alloc: A,
     channels: &[AnalogChannel<A>],
-    surveys: &[Survey],
+    surveys: &[ChannelSpan],
     scales: &[Scale],
 ) -> Result<Vec<usize, A>, ToolFault>
     ensures { IfOk result (λ panels. length panels.items ≡ length channels.now) }

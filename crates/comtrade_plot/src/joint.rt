@@ -3,7 +3,7 @@
 
 use crate::layout::NOWHERE;
 use crate::plan::{Frame, window_of};
-use crate::record::{Record, lasting};
+use crate::record::{DrawnRecord, lasting};
 use crate::rows::{last_change, whole_frame};
 use crate::ticks::rounded_out;
 use comtrade_format::File;
@@ -77,8 +77,8 @@ pub(crate) struct Drawn {
 /// are long, or all; None where they have none in common.
 pub(crate) fn drawn_of<A: Allocator>(
     file: &File<A>,
-    one: &Record<A>,
-    other: &Record<A>,
+    one: &DrawnRecord<A>,
+    other: &DrawnRecord<A>,
     is_whole: bool,
 ) -> Option<Drawn> {
     let cycle = one.cycle_or_usual();

@@ -2,12 +2,12 @@
 
 ghost use Rattle.std.specs.Prelude.{◌≤◌};
 
-use crate::gaps::Gap;
+use crate::gaps::TimeGap;
 use crate::groups::hue_in;
 use crate::layers::Layer;
 use crate::phases::Hue;
 use crate::plan::{Cycle, Down, Frame};
-use crate::survey::{Rms, Survey};
+use crate::survey::{ChannelSpan, Rms};
 use comtrade_format::{File, Scale};
 use dfr_channels::{AnalogChannel, StatusChannel};
 use std::alloc::Allocator;
@@ -21,11 +21,11 @@ pub(crate) struct Chart<'a, A: Allocator> {
     pub(crate) file: &'a File<A>,
     pub(crate) scales: &'a [Scale],
     pub(crate) panels: &'a [usize],
-    pub(crate) surveys: &'a [Survey],
+    pub(crate) surveys: &'a [ChannelSpan],
     pub(crate) rms: &'a [Rms],
     pub(crate) frame: Frame,
     pub(crate) places: &'a [Option<u32>],
-    pub(crate) gaps: &'a [Gap],
+    pub(crate) gaps: &'a [TimeGap],
     pub(crate) cycle: Option<Cycle>,
     pub(crate) is_timed: bool,
     pub(crate) trigger: i64,

@@ -6,7 +6,7 @@ use crate::phases::Hue;
 use crate::plan::{Down, RIGHT};
 use crate::quantity::put_quantity;
 use crate::sheet::Sheet;
-use crate::survey::{Rms, Survey};
+use crate::survey::{ChannelSpan, Rms};
 use crate::units::unit_of;
 use comtrade_format::Scale;
 use std::alloc::Allocator;
@@ -73,7 +73,7 @@ pub(crate) fn put_name<A: Allocator>(
 }
 
 /// The value of a channel that is farthest from 0.
-pub(crate) fn peak_of(survey: Survey, scale: Scale) -> Option<f64> {
+pub(crate) fn peak_of(survey: ChannelSpan, scale: Scale) -> Option<f64> {
     let (low, high) = survey.values(scale)?;
     Some(if high.abs() < low.abs() { low } else { high })
 }

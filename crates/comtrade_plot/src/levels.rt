@@ -36,20 +36,20 @@ impl Digit {
 
 /// A step of 1, 2 or 5 times a power of ten: its size, and the decimal places of its digit.
 #[derive(Clone, Copy)]
-struct Step {
+struct LevelStep {
     digit: Digit,
     places: i32,
     size: f64,
 }
 
 /// The smallest such step of at least this size, from 1E-16 on.
-fn step_of(least: f64) -> Step {
+fn step_of(least: f64) -> LevelStep {
     let mut power = 1e-16;
     for exponent in 0..36u8 {
         for digit in [Digit::One, Digit::Two, Digit::Five] {
             let size = power * digit.size();
             if least <= size {
-                return Step {
+                return LevelStep {
                     digit,
                     places: 16 - i32::from(exponent),
                     size,
@@ -58,7 +58,7 @@ fn step_of(least: f64) -> Step {
         }
         power *= 10.0;
     }
-    Step {
+    LevelStep {
         digit: Digit::One,
         places: -20,
         size: power,
@@ -66,7 +66,7 @@ fn step_of(least: f64) -> Step {
 }
 
 /// A level's line and its value, which is compressed where it has more than ten characters.
-fn put_level<A: Allocator + Copy>(sheet: &mut Sheet<A>, step: Step, tick: i64, y: Down) {
+fn put_level<A: Allocator + Copy>(sheet: &mut Sheet<A>, step: LevelStep, tick: i64, y: Down) {
     sheet.text("<path class=\"g\" stroke=\"#e2e2e2\" d=\"");
     sheet.point("M", LEFT, y.tenths);
     sheet.along("H", RIGHT);

@@ -1,14 +1,14 @@
 //! A page that shows a record in a browser: one file with its data and the script that draws them.
 
-use crate::blocks::{Bits, Samples, gather_bits, gather_samples, times_of_rows, write_block};
+use crate::blocks::{Bits, SampleBlocks, gather_bits, gather_samples, times_of_rows, write_block};
 use crate::groups::hue_in;
 use crate::head::put_station;
 use crate::instant::put_instant;
-use crate::record::{Choice, Part, Record, Timed, choice_of, part_of, record_of};
+use crate::record::{DrawnPart, DrawnRecord, DrawnTimes, Timed, choice_of, part_of, record_of};
 use crate::script_text::script;
 use crate::sheet::Sheet;
 use crate::style_text::style;
-use crate::survey::Survey;
+use crate::survey::ChannelSpan;
 use comtrade_format::{File, Head, Row};
 use comtrade_io::ToolFault;
 use dfr_channels::{AnalogChannel, Side, StatusChannel};
@@ -41,7 +41,7 @@ fn put_text<A: Allocator>(sheet: &mut Sheet<A>, before: &str, text: &[u8]) {
 }
 
 /// Whether a channel's samples need more than 16 bits.
-fn is_wide(survey: Survey) -> bool {
+fn is_wide(survey: ChannelSpan) -> bool {
     match survey.bounds {
         Some((least, greatest)) => least < -32_767 || 32_767 < greatest,
         None => false,
@@ -52,7 +52,7 @@ fn is_wide(survey: Survey) -> bool {
 fn put_analog<A: Allocator>(
     sheet: &mut Sheet<A>,
     channels: &[AnalogChannel<A>],
-    part: &Part<A>,
+    part: &DrawnPart<A>,
     at: usize,
 ) {
     let (Some(channel), Some(panel), Some(survey)) = (
@@ -87,7 +87,11 @@ fn put_analog<A: Allocator>(
     sheet.text("}");
 }
 
-fn put_analogs<A: Allocator>(sheet: &mut Sheet<A>, channels: &[AnalogChannel<A>], part: &Part<A>) {
+fn put_analogs<A: Allocator>(
+    sheet: &mut Sheet<A>,
+    channels: &[AnalogChannel<A>],
+    part: &DrawnPart<A>,
+) {
     sheet.text(",\"analog\":[");
     for i in 0..channels.len() {
         sheet.text(if i == 0 { "" } else { ",\n" });
@@ -132,9 +136,9 @@ fn put_rates<A: Allocator>(sheet: &mut Sheet<A>, head: &Head<A>) {
 fn put_json<A: Allocator>(
     sheet: &mut Sheet<A>,
     file: &File<A>,
-    record: &Record<A>,
-    part: &Part<A>,
-    choice: Choice,
+    record: &DrawnRecord<A>,
+    part: &DrawnPart<A>,
+    choice: DrawnTimes,
 ) {
     sheet.text("<script type=\"application/json\" id=\"head\">{\"rows\":");
     sheet.number(file.rows.items().len() as u64);
@@ -176,7 +180,7 @@ fn put_begin<A: Allocator>(sheet: &mut Sheet<A>, file: &File<A>) {
 /// written.
 fn begin_samples<A: Allocator + Copy>(
     alloc: A,
-    channels: &mut Vec<Samples<A>, A>,
+    channels: &mut Vec<SampleBlocks<A>, A>,
     place: usize,
     is_wide: bool,
     rows: usize,
@@ -188,7 +192,7 @@ fn begin_samples<A: Allocator + Copy>(
     }
     let width = if is_wide { 4 } else { 2 };
     let size = rows.checked_mul(width).ok_or(AllocError)?;
-    channels.push(Samples {
+    channels.push(SampleBlocks {
         bytes: Vec::with_capacity(alloc, size)?,
         is_wide,
     })?;
@@ -203,10 +207,10 @@ const TOGETHER: usize = 8;
 fn write_samples<A: Allocator + Copy, W: Write>(
     alloc: A,
     rows: &[Row<A>],
-    surveys: &[Survey],
+    surveys: &[ChannelSpan],
     w: &mut W,
 ) -> Result<(), ToolFault> {
-    let mut channels: Vec<Samples<A>, A> = Vec::with_capacity(alloc, TOGETHER)?;
+    let mut channels: Vec<SampleBlocks<A>, A> = Vec::with_capacity(alloc, TOGETHER)?;
     let firsts = (0..surveys.len()).step_by(TOGETHER);
     for (first, some) in firsts.zip(surveys.chunks(TOGETHER)) {
         for (i, survey) in some.iter().enumerate() {

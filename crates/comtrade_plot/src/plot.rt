@@ -27,7 +27,7 @@ pub struct PlotOptions {
 /// The vertical positions of a picture's parts: the times above, the panels, the status channels,
 /// their end.
 #[derive(Clone, Copy)]
-struct Places {
+struct ChannelPlaces {
     names: Down,
     panels: Down,
     contacts: Down,
@@ -36,7 +36,7 @@ struct Places {
 
 /// The positions in a picture, with room for the overview strip where only a part of a record is
 /// drawn.
-fn places_in<A: Allocator>(chart: &Chart<'_, A>, bars: &[bool], is_part: bool) -> Places {
+fn places_in<A: Allocator>(chart: &Chart<'_, A>, bars: &[bool], is_part: bool) -> ChannelPlaces {
     let mut names = Down::at(620);
     if is_part {
         names = names.below(STRIP);
@@ -46,7 +46,7 @@ fn places_in<A: Allocator>(chart: &Chart<'_, A>, bars: &[bool], is_part: bool) -
     }
     let panels = names.below(40);
     let contacts = panels_end(chart, panels).below(120);
-    Places {
+    ChannelPlaces {
         names,
         panels,
         contacts,
@@ -56,7 +56,7 @@ fn places_in<A: Allocator>(chart: &Chart<'_, A>, bars: &[bool], is_part: bool) -
 
 /// What is drawn besides panels and status channels: times, cycles, gaps, the note about rms
 /// values.
-fn put_scales<A: Allocator>(sheet: &mut Sheet<A>, chart: &Chart<'_, A>, places: Places) {
+fn put_scales<A: Allocator>(sheet: &mut Sheet<A>, chart: &Chart<'_, A>, places: ChannelPlaces) {
     put_times(sheet, chart, places.names);
     put_times_name(sheet, chart, places.names);
     put_gap_names(sheet, chart, places.names.above(150));

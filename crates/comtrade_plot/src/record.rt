@@ -1,12 +1,12 @@
 //! Preparation of a file before it is drawn.
 
-use crate::gaps::{Gap, gaps_of};
+use crate::gaps::{TimeGap, gaps_of};
 use crate::groups::panels_of;
 use crate::layers::Layer;
 use crate::layout::Chart;
 use crate::plan::{Cycle, Frame, window_of};
 use crate::rows::{kept_times, last_change, numbers_of, places_of, whole_frame};
-use crate::survey::{Rms, Survey, surveys_of};
+use crate::survey::{ChannelSpan, Rms, surveys_of};
 use crate::ticks::rounded_out;
 use comtrade_format::{File, Scale, nearest_f64, scale_of};
 use comtrade_io::ToolFault;
@@ -40,7 +40,7 @@ pub struct Timed<'a, A: Allocator> {
 /// times; the scales of samples; the rms values of channels; the length of a cycle of the line
 /// frequency, if there is one; when the trigger was; and which record of the picture it is.
 #[derive(Drop)]
-pub(crate) struct Record<A: Allocator> {
+pub(crate) struct DrawnRecord<A: Allocator> {
     pub(crate) times: Vec<Option<i64>, A>,
     pub(crate) kept: Vec<Option<i64>, A>,
     pub(crate) scales: Vec<Scale, A>,
@@ -51,7 +51,7 @@ pub(crate) struct Record<A: Allocator> {
     pub(crate) layer: Layer,
 }
 
-impl<A: Allocator> Record<A> {
+impl<A: Allocator> DrawnRecord<A> {
     /// The length of a cycle; of 50 Hz where the file gives no line frequency.
     pub(crate) fn cycle_or_usual(&self) -> Cycle {
         self.cycle.unwrap_or(Cycle::usual())
@@ -61,7 +61,7 @@ impl<A: Allocator> Record<A> {
 pub(crate) fn record_of<A: Allocator + Copy>(
     alloc: A,
     timed: Timed<'_, A>,
-) -> Result<Record<A>, ToolFault> {
+) -> Result<DrawnRecord<A>, ToolFault> {
     let (file, times) = (timed.file, timed.times);
     let is_timed = whole_frame(times).is_some();
     let hertz = nearest_f64(alloc, file.head.line_freq)?;
@@ -78,7 +78,7 @@ pub(crate) fn record_of<A: Allocator + Copy>(
     };
     let kept = kept_times(alloc, file, &times)?;
     let scales = scales_of(alloc, file.head.analog.items())?;
-    Ok(Record {
+    Ok(DrawnRecord {
         times,
         kept,
         scales,
@@ -92,7 +92,7 @@ pub(crate) fn record_of<A: Allocator + Copy>(
 
 /// The times that are drawn of a record.
 #[derive(Clone, Copy)]
-pub(crate) struct Choice {
+pub(crate) struct DrawnTimes {
     pub(crate) whole: Frame,
     pub(crate) drawn: Frame,
     pub(crate) is_part: bool,
@@ -114,23 +114,23 @@ pub(crate) fn lasting(frame: Option<Frame>, least: i64) -> Frame {
 /// Which times are drawn of a file.
 pub(crate) fn choice_of<A: Allocator>(
     file: &File<A>,
-    record: &Record<A>,
+    record: &DrawnRecord<A>,
     is_whole: bool,
-) -> Choice {
+) -> DrawnTimes {
     let cycle = record.cycle_or_usual();
     let least = if record.is_timed { cycle.nanos } else { 1 };
     let whole = lasting(whole_frame(&record.kept), least);
     if record.is_timed && !is_whole {
         let change = last_change(file, &record.kept, cycle);
         if let Some(drawn) = window_of(whole, cycle, change) {
-            return Choice {
+            return DrawnTimes {
                 whole,
                 drawn,
                 is_part: true,
             };
         }
     }
-    Choice {
+    DrawnTimes {
         whole,
         drawn: rounded_out(whole),
         is_part: false,
@@ -140,20 +140,20 @@ pub(crate) fn choice_of<A: Allocator>(
 /// What is known of the part of a file that is drawn: the number of each channel's panel, the
 /// survey of its rows, their positions, the gaps.
 #[derive(Drop)]
-pub(crate) struct Part<A: Allocator> {
+pub(crate) struct DrawnPart<A: Allocator> {
     frame: Frame,
     pub(crate) panels: Vec<usize, A>,
-    pub(crate) surveys: Vec<Survey, A>,
+    pub(crate) surveys: Vec<ChannelSpan, A>,
     places: Vec<Option<u32>, A>,
-    gaps: Vec<Gap, A>,
+    gaps: Vec<TimeGap, A>,
 }
 
 pub(crate) fn part_of<A: Allocator + Copy>(
     alloc: A,
     file: &File<A>,
-    record: &Record<A>,
+    record: &DrawnRecord<A>,
     frame: Frame,
-) -> Result<Part<A>, ToolFault> {
+) -> Result<DrawnPart<A>, ToolFault> {
     let surveys = surveys_of(alloc, file, &record.kept, frame)?;
     let panels = panels_of(alloc, file.head.analog.items(), &surveys, &record.scales)?;
     part_with(alloc, record, frame, surveys, panels)
@@ -163,24 +163,24 @@ pub(crate) fn part_of<A: Allocator + Copy>(
 pub(crate) fn part_in<A: Allocator + Copy>(
     alloc: A,
     file: &File<A>,
-    record: &Record<A>,
+    record: &DrawnRecord<A>,
     frame: Frame,
     panels: Vec<usize, A>,
-) -> Result<Part<A>, ToolFault> {
+) -> Result<DrawnPart<A>, ToolFault> {
     let surveys = surveys_of(alloc, file, &record.kept, frame)?;
     part_with(alloc, record, frame, surveys, panels)
 }
 
 fn part_with<A: Allocator + Copy>(
     alloc: A,
-    record: &Record<A>,
+    record: &DrawnRecord<A>,
     frame: Frame,
-    surveys: Vec<Survey, A>,
+    surveys: Vec<ChannelSpan, A>,
     panels: Vec<usize, A>,
-) -> Result<Part<A>, ToolFault> {
+) -> Result<DrawnPart<A>, ToolFault> {
     let places = places_of(alloc, frame, &record.kept)?;
     let gaps = gaps_of(alloc, frame, &record.kept)?;
-    Ok(Part {
+    Ok(DrawnPart {
         frame,
         panels,
         surveys,
@@ -193,14 +193,14 @@ fn part_with<A: Allocator + Copy>(
 pub(crate) fn whole_of<A: Allocator + Copy>(
     alloc: A,
     file: &File<A>,
-    record: &Record<A>,
-    part: &Part<A>,
+    record: &DrawnRecord<A>,
+    part: &DrawnPart<A>,
     frame: Frame,
-) -> Result<Part<A>, ToolFault> {
+) -> Result<DrawnPart<A>, ToolFault> {
     let surveys = surveys_of(alloc, file, &record.kept, frame)?;
     let panels = Vec::from_slice(alloc, &part.panels)?;
     let places = places_of(alloc, frame, &record.kept)?;
-    Ok(Part {
+    Ok(DrawnPart {
         frame,
         panels,
         surveys,
@@ -212,8 +212,8 @@ pub(crate) fn whole_of<A: Allocator + Copy>(
 pub(crate) fn chart_of<'a, A: Allocator>(
     alloc: A,
     file: &'a File<A>,
-    record: &'a Record<A>,
-    part: &'a Part<A>,
+    record: &'a DrawnRecord<A>,
+    part: &'a DrawnPart<A>,
 ) -> Chart<'a, A> {
     Chart {
         alloc,

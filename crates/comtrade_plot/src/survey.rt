@@ -8,17 +8,17 @@ use std::alloc::Allocator;
 
 /// What is known of a channel: its least and its greatest sample, if it has any.
 #[derive(Clone, Copy)]
-pub(crate) struct Survey {
+pub(crate) struct ChannelSpan {
     pub(crate) bounds: Option<(i32, i32)>,
 }
 
-impl Survey {
-    fn with(self, sample: i32) -> Survey {
+impl ChannelSpan {
+    fn with(self, sample: i32) -> ChannelSpan {
         let bounds = match self.bounds {
             None => Some((sample, sample)),
             Some((least, greatest)) => Some((least.min(sample), greatest.max(sample))),
         };
-        Survey { bounds }
+        ChannelSpan { bounds }
     }
 
     /// The least and the greatest value.
@@ -47,10 +47,10 @@ pub(crate) fn surveys_of<A: Allocator + Copy>(
     file: &File<A>,
     kept: &[Option<i64>],
     frame: Frame,
-) -> Result<Vec<Survey, A>, ToolFault> {
+) -> Result<Vec<ChannelSpan, A>, ToolFault> {
     let mut surveys = Vec::new(alloc);
     for _ in file.head.analog.items() {
-        surveys.push(Survey { bounds: None })?;
+        surveys.push(ChannelSpan { bounds: None })?;
     }
     for (row, time) in file.rows.items().iter().zip(kept.iter()) {
         match *time {

@@ -8,7 +8,7 @@ use std::alloc::Allocator;
 /// A channel's unit: its name without the prefix, the prefix's power of ten, and whether it takes
 /// prefixes.
 #[derive(Clone, Copy)]
-pub(crate) struct Unit<'a> {
+pub(crate) struct AxisUnit<'a> {
     pub(crate) base: &'a [u8],
     pub(crate) exponent: i8,
     pub(crate) takes_prefixes: bool,
@@ -28,7 +28,7 @@ fn is_base(unit: &[u8]) -> bool {
 }
 
 /// The unit without its prefix.
-fn without_prefix(unit: &[u8]) -> Option<Unit<'_>> {
+fn without_prefix(unit: &[u8]) -> Option<AxisUnit<'_>> {
     let (first, base) = unit.split_first()?;
     let exponent = match first {
         b'n' => -9,
@@ -42,15 +42,15 @@ fn without_prefix(unit: &[u8]) -> Option<Unit<'_>> {
     if !is_base(base) {
         return None;
     }
-    Some(Unit {
+    Some(AxisUnit {
         base,
         exponent,
         takes_prefixes: true,
     })
 }
 
-pub(crate) fn unit_of(unit: &[u8]) -> Unit<'_> {
-    let plain = Unit {
+pub(crate) fn unit_of(unit: &[u8]) -> AxisUnit<'_> {
+    let plain = AxisUnit {
         base: unit,
         exponent: 0,
         takes_prefixes: is_base(unit),
@@ -126,7 +126,7 @@ fn thousands(size: f64) -> i16 {
 
 /// The power of ten by which values of a size are divided for display in a unit; none where a unit
 /// without prefixes needs none.
-pub(crate) fn shown_exponent(unit: Unit<'_>, size: f64) -> i16 {
+pub(crate) fn shown_exponent(unit: AxisUnit<'_>, size: f64) -> i16 {
     if !unit.takes_prefixes && 0.001 <= size && size < 1e6 {
         return 0;
     }
@@ -143,7 +143,7 @@ pub(crate) fn power_of_ten(exponent: i16) -> f64 {
 }
 
 /// A unit of values that were divided by a power of ten.
-pub(crate) fn put_unit<A: Allocator>(sheet: &mut Sheet<A>, unit: Unit<'_>, exponent: i16) {
+pub(crate) fn put_unit<A: Allocator>(sheet: &mut Sheet<A>, unit: AxisUnit<'_>, exponent: i16) {
     let whole = i32::from(exponent) + i32::from(unit.exponent);
     match prefix_of(whole) {
         Some(prefix) if unit.takes_prefixes => sheet.text(prefix),

@@ -5,17 +5,18 @@ use crate::instant::InstantText;
 use crate::number::{Scale, put_sample, put_shortened, scale_of};
 use crate::spelling::Spelling;
 use crate::value_cells::{ValueCells, set_decimal_sign, value_cells_of};
-use comtrade_format::{File, Row};
+use comtrade_format::{File, Head, Row};
 use comtrade_io::{ToolFault, flush_if_full, write_out};
 use comtrade_values::{put, put_number};
 use dfr_channels::{AnalogChannel, Reading};
 use std::alloc::{AllocError, Allocator};
 use std::io::Write;
 
-/// The lines not yet written, the instant of the last row, a cell whose number is written in
-/// another way, and the cells of a row's values and bits.
+/// Rows as comma-separated values, of a file that may come piece by piece: the lines not yet written,
+/// the instant of the last row, a cell whose number is written in another way, and the cells of a
+/// row's values and bits.
 #[derive(Drop)]
-struct Lines<A: Allocator> {
+pub struct CsvRows<A: Allocator> {
     text: Vec<u8, A>,
     instant: InstantText<A>,
     cell: Vec<u8, A>,
@@ -33,7 +34,7 @@ fn bit_cells<A: Allocator>(alloc: A, bits: usize, separator: u8) -> Result<Vec<u
     Ok(cells)
 }
 
-impl<A: Allocator> Lines<A> {
+impl<A: Allocator> CsvRows<A> {
     fn separate(&mut self) -> Result<(), AllocError> {
         Ok(self.text.push(self.spelling.separator)?)
     }
@@ -125,19 +126,46 @@ impl<A: Allocator> Lines<A> {
     }
 }
 
-/// Writes the lines of the rows, a piece whenever enough of them have been collected.
-fn write_rows<A: Allocator, W: Write>(
-    lines: &mut Lines<A>,
-    file: &File<A>,
-    times: &[Option<i64>],
-    w: &mut W,
-) -> Result<(), ToolFault> {
-    let channels = file.head.analog.items();
-    for (row, since) in file.rows.items().iter().zip(times) {
-        lines.put_row(channels, row, file.head.trigger, *since)?;
-        flush_if_full(w, &mut lines.text)?;
+impl<A: Allocator + Copy> CsvRows<A> {
+    /// Prints the names of the columns, before the first row of a file with this head.
+    pub fn begun<W: Write>(
+        alloc: A,
+        head: &Head<A>,
+        spelling: Spelling,
+        w: &mut W,
+    ) -> Result<CsvRows<A>, ToolFault> {
+        write_names(alloc, head, spelling.separator, w)?;
+        Ok(CsvRows {
+            text: Vec::new(alloc),
+            instant: InstantText::new(alloc),
+            cell: Vec::new(alloc),
+            values: value_cells_of(alloc, head.analog.items(), spelling)?,
+            bits: bit_cells(alloc, head.status.items().len(), spelling.separator)?,
+            spelling,
+        })
     }
-    write_out(w, &lines.text)
+
+    /// Prints the next rows of the file with this head, which were taken at these times, in
+    /// nanoseconds since the trigger. The last lines are kept until enough have been collected.
+    pub fn put_rows<W: Write>(
+        &mut self,
+        head: &Head<A>,
+        rows: &[Row<A>],
+        times: &[Option<i64>],
+        w: &mut W,
+    ) -> Result<(), ToolFault> {
+        let channels = head.analog.items();
+        for (row, since) in rows.iter().zip(times) {
+            self.put_row(channels, row, head.trigger, *since)?;
+            flush_if_full(w, &mut self.text)?;
+        }
+        Ok(())
+    }
+
+    /// Prints the lines that are kept, after the last row.
+    pub fn end<W: Write>(&self, w: &mut W) -> Result<(), ToolFault> {
+        write_out(w, &self.text)
+    }
 }
 
 /// Prints the rows of a file: number, instant, milliseconds since the trigger, values a*x + b,
@@ -149,14 +177,7 @@ pub fn csv_over<A: Allocator + Copy, W: Write>(
     spelling: Spelling,
     w: &mut W,
 ) -> Result<(), ToolFault> {
-    write_names(alloc, &file.head, spelling.separator, w)?;
-    let mut lines = Lines {
-        text: Vec::new(alloc),
-        instant: InstantText::new(alloc),
-        cell: Vec::new(alloc),
-        values: value_cells_of(alloc, file.head.analog.items(), spelling)?,
-        bits: bit_cells(alloc, file.head.status.items().len(), spelling.separator)?,
-        spelling,
-    };
-    write_rows(&mut lines, file, times, w)
+    let mut lines = CsvRows::begun(alloc, &file.head, spelling, w)?;
+    lines.put_rows(&file.head, file.rows.items(), times, w)?;
+    lines.end(w)
 }

@@ -1,6 +1,7 @@
 //! Events of records, as a table.
 
 use crate::events::Event;
+use crate::html::put_html_table;
 use crate::instant::{put_instant, put_millis};
 use crate::number::put_ordinal;
 use crate::table::{end_cell, end_row, put_table, table_of};
@@ -80,5 +81,16 @@ pub fn put_events<A: Allocator + Copy>(
     names: &[String],
 ) -> Result<(), ToolFault> {
     put_table(out, &event_table(alloc, events, names)?)?;
+    Ok(())
+}
+
+/// The same in HTML.
+pub fn put_events_html<A: Allocator + Copy>(
+    alloc: A,
+    out: &mut Vec<u8, A>,
+    events: &[Event<A>],
+    names: &[String],
+) -> Result<(), ToolFault> {
+    put_html_table(out, &event_table(alloc, events, names)?)?;
     Ok(())
 }

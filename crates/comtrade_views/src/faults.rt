@@ -16,5 +16,5 @@ mod told;
 mod words;
 
 pub use members::RecordFaults;
-pub use of_record::faults_of;
-pub use told::{Faults, put_fault_blocks, put_fault_lines, put_faults_json};
+pub use of_record::{faults_of, first_fault_of};
+pub use told::{Faults, put_fault_blocks, put_fault_lines, put_faults_html, put_faults_json};

@@ -13,7 +13,8 @@ mod side;
 
 pub use encoding::{spell_for_views, spell_in_utf8};
 pub use fault::PartFault;
+pub use moment::nanos_in;
 pub(crate) use moment::{Moment, moment_of};
 pub(crate) use names::fits;
 pub(crate) use reach::{Reach, reach_of};
-pub use record::{Cut, is_whole, part_of};
+pub use record::{Cut, CutPlan, is_whole, part_of, plan_of};

@@ -1,8 +1,9 @@
 //! A record in one line.
 
-ghost use Rattle.std.specs.Prelude.{◌≡◌, Some, None, IfOk, IfSome};
+ghost use Rattle.std.specs.Prelude.{◌≡◌, Some, None, IfOk, IfSome, IsSome};
 
 use crate::facts::{Facts, Greatest, facts_of};
+use crate::html::{put_html, put_html_table};
 use crate::instant::{put_instant, put_millis};
 use crate::number::put_decimal;
 use crate::table::{end_cell, end_row, put_number_cell, put_safe_cell, put_table, table_of};
@@ -32,6 +33,7 @@ pub fn summary_of<A: Allocator + Copy>(
     file: &File<A>,
     name: &[u8],
 ) -> Result<Summary<A>, ToolFault>
+    ensures facts { IfOk result (λ summary. IsSome summary.facts) }
     ensures trigger { IfOk result (λ summary. IfSome summary.facts (λ facts. facts.trigger ≡ file.now.head.trigger)) }
     ensures name { IfOk result (λ summary. summary.name.items ≡ name.now) }
 {
@@ -161,5 +163,20 @@ pub fn put_summaries<A: Allocator + Copy>(
 ) -> Result<(), ToolFault> {
     put_table(out, &summary_table(alloc, records)?)?;
     put_faults(out, records, others)?;
+    Ok(())
+}
+
+/// The table of records in HTML, then the errors, and how many there are.
+pub fn put_summaries_html<A: Allocator + Copy>(
+    alloc: A,
+    out: &mut Vec<u8, A>,
+    records: &[Summary<A>],
+) -> Result<(), ToolFault> {
+    put_html_table(out, &summary_table(alloc, records)?)?;
+    let mut rest = Vec::new(alloc);
+    put_faults(&mut rest, records, 0)?;
+    put(out, "<pre>")?;
+    put_html(out, &rest)?;
+    put(out, "</pre>\n")?;
     Ok(())
 }

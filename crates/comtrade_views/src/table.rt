@@ -87,7 +87,7 @@ fn width_of(cell: &[u8]) -> usize {
 }
 
 /// The cells of a row, without its end.
-fn row_of(line: &[u8]) -> &[u8] {
+pub(crate) fn row_of(line: &[u8]) -> &[u8] {
     match line {
         [row @ .., b'\n'] => row,
         _ => line,

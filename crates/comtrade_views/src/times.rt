@@ -3,7 +3,7 @@
 ghost use Rattle.std.specs.Prelude.{◌≡◌, ◌-ℤ◌, ◌*ℤ◌, pos, length, IfOk};
 ghost use Rattle.comtrade_views.specs.Texts as spec;
 
-use comtrade_format::{File, clock_in};
+use comtrade_format::{Border, File, Head, Row, clock_in, clock_with};
 use comtrade_io::ToolFault;
 use std::alloc::Allocator;
 
@@ -37,16 +37,28 @@ pub(crate) fn time_at(times: &[Option<i64>], row: usize) -> Option<i64>
     }
 }
 
+/// When the trigger of a record with this head was, in nanoseconds since the first row.
+fn trigger_in<A: Allocator>(head: &Head<A>) -> i128
+    ensures { result ≡ (head.now.trigger -ℤ head.now.first) *ℤ pos 1000 }
+{
+    (head.trigger as i128 - head.first as i128) * 1000
+}
+
 /// When the trigger was, in nanoseconds since the first row.
 pub(crate) fn trigger_since_first<A: Allocator>(file: &File<A>) -> i128
     ensures { result ≡ (file.now.head.trigger -ℤ file.now.head.first) *ℤ pos 1000 }
 {
-    (file.head.trigger as i128 - file.head.first as i128) * 1000
+    trigger_in(&file.head)
 }
 
 /// A time since the first row as one since the trigger; None beyond 292 years.
 fn since(nanos: i64, trigger: i128) -> Option<i64> {
     i64::try_from((nanos as i128).checked_sub(trigger)?).ok()
+}
+
+/// The same of a time that may be beyond 292 years.
+fn nanos_since(nanos: u128, trigger: i128) -> Option<i64> {
+    since(i64::try_from(nanos).ok()?, trigger)
 }
 
 /// When each row was taken, in nanoseconds since the trigger; None where that is not known, and
@@ -63,6 +75,31 @@ pub fn times_since_trigger<A: Allocator + Copy>(
         if let Some(nanos) = *time {
             *time = since(nanos, trigger);
         }
+    }
+    Ok(times)
+}
+
+/// When each of these rows was taken, in nanoseconds since the trigger, as `times_since_trigger` has
+/// it: the rows from an index on, from 0, of a file with this head, if this rate gives the interval
+/// across each border.
+pub fn piece_times<A: Allocator + Copy>(
+    alloc: A,
+    head: &Head<A>,
+    border: Border,
+    rows: &[Row<A>],
+    first: u64,
+) -> Result<Vec<Option<i64>, A>, ToolFault> {
+    let trigger = trigger_in(head);
+    let mut times = Vec::with_capacity(alloc, rows.len())?;
+    let mut clock = clock_with(head, border);
+    for (i, row) in rows.iter().enumerate() {
+        // (a file has fewer rows)
+        let index = first.checked_add(i as u64).ok_or(ToolFault::Input)?;
+        clock = clock.at(index);
+        times.push(match clock.nanos(index, row.stamp) {
+            Some(nanos) => nanos_since(nanos, trigger),
+            None => None,
+        })?;
     }
     Ok(times)
 }

@@ -12,8 +12,8 @@ use crate::command_line::matched::{
     cursor_of, form_of, is_set, kind_of, named, names_of, part_of, picture_of, text_of, texts_of,
 };
 use crate::words::{
-    Asked, Compared, Converted, Diagnosed, Importing, Names, Survey, Surveyed, View, Viewed,
-    new_names, survey_of, view_of,
+    Asked, Batch, Batched, Compared, Converted, Diagnosed, Importing, Names, Reported, Survey,
+    Surveyed, View, Viewed, batch_of, new_names, survey_of, view_of,
 };
 use clap::error::ErrorKind;
 use clap::{ArgMatches, Error};
@@ -43,13 +43,37 @@ fn viewed_of<'a>(view: View, found: &ArgMatches<'a>) -> Option<Asked<'a>>
             names,
             part: part_of(found),
             form: form_of(found),
-            picture: picture_of(found),
-            cursor: cursor_of(found),
             lines: text_of(found, "LINES"),
             json: is_set(found, "json"),
             output: text_of(found, "output"),
         },
     ))
+}
+
+/// Records, a part of each, and how it is printed.
+fn each_of<'a>(alloc: Global, found: &ArgMatches<'a>) -> Result<Batched<'a>, AllocError>
+    ensures { IfOk result (Spec.IsBatched (rows_of (found_of found.now))) }
+{
+    Ok(Batched {
+        names: texts_of(alloc, found, "NAMES")?,
+        recursive: is_set(found, "recursive"),
+        part: part_of(found),
+        picture: picture_of(found),
+        cursor: cursor_of(found),
+        json: is_set(found, "json"),
+        output: text_of(found, "output"),
+    })
+}
+
+/// Records, and what is printed of each.
+fn batched_of<'a>(
+    alloc: Global,
+    batch: Batch,
+    found: &ArgMatches<'a>,
+) -> Result<Asked<'a>, AllocError>
+    ensures { IfOk result (Asks (rows_of (found_of found.now)) (verbs.batch_name batch)) }
+{
+    Ok(Asked::Batch(batch, each_of(alloc, found)?))
 }
 
 /// A pair, and the name of a new one: with three names the second is the data file.
@@ -105,6 +129,8 @@ fn compared_of<'a>(found: &ArgMatches<'a>) -> Option<Compared<'a>>
         one: text_of(found, "A")?,
         other: text_of(found, "B")?,
         by: text_of(found, "by"),
+        shift: text_of(found, "shift"),
+        pairs: text_of(found, "map"),
         part: part_of(found),
         picture: picture_of(found),
         output: text_of(found, "output"),
@@ -129,6 +155,18 @@ fn diagnosed_of<'a>(alloc: Global, found: &ArgMatches<'a>) -> Result<Asked<'a>, 
         recursive: is_set(found, "recursive"),
         long: is_set(found, "long"),
         json: is_set(found, "json"),
+        encoding: text_of(found, "encoding"),
+        output: text_of(found, "output"),
+    }))
+}
+
+/// The records of which a report is made.
+fn reported_of<'a>(alloc: Global, found: &ArgMatches<'a>) -> Result<Asked<'a>, AllocError>
+    ensures { IfOk result (Asks (rows_of (found_of found.now)) (codes "report")) }
+{
+    Ok(Asked::Report(Reported {
+        names: texts_of(alloc, found, "NAMES")?,
+        recursive: is_set(found, "recursive"),
         encoding: text_of(found, "encoding"),
         output: text_of(found, "output"),
     }))
@@ -198,8 +236,14 @@ fn asked_of<'a>(
     if verb == "fault" {
         return Ok(Some(diagnosed_of(alloc, found)?));
     }
+    if verb == "report" {
+        return Ok(Some(reported_of(alloc, found)?));
+    }
     if let Some(view) = view_of(verb) {
         return Ok(viewed_of(view, found));
+    }
+    if let Some(batch) = batch_of(verb) {
+        return Ok(Some(batched_of(alloc, batch, found)?));
     }
     match survey_of(verb) {
         Some(survey) => Ok(Some(surveyed_of(alloc, survey, found)?)),

@@ -27,12 +27,23 @@ the data file; one of the two may be -, for standard input. FILE alone may be - 
 
 Exit status: 0 success; 1 an error in the files, or a file that cannot be read or written; 2 usage error.";
 
+/// What NAMES are, and the exit status.
+const BATCH_STATUS: &str = "\
+NAMES are records, and folders with records. A record is named by its configuration file (.cfg), its
+data file (.dat), a single file (.cff), an archive with one record (.zip, .cfz), or the name they
+share; .dat.gz and .cff.gz are read too. Two names are the two files of one record where one of them
+is - (standard input), or where one alone ends in .dat or .dat.gz. - alone is a whole record.
+
+Exit status: 0 success; 1 an error in the files, or a file that cannot be read or written; 2 usage error.";
+
 const TOP_HELP: &str = "\
 Many records, after a storm:
   comtrade list storm                    one line per record, with its greatest current
   comtrade list -r --min-current 2000 .  the large ones, of folders within folders too
   comtrade events storm/rec1 storm/rec2  what happened, in order of time
   comtrade fault storm                   each fault: type, inception, clearing, breaker
+  comtrade report storm -o storm.html    all of that in one file, to send or to print
+  comtrade page -r storm -o pages        a page for each record, in the folder pages
 
 One record:
   comtrade show rec1                     names, rates, channels, extremes, gaps
@@ -64,7 +75,8 @@ Exit status: 0 success; 1 an error in the files, or a file that cannot be read o
 
 const COMPARE_STATUS: &str = "\
 A and B are the names of two pairs, or one file of each. Options that choose rows and channels apply
-to A; channels are compared where name, unit and side are the same.
+to A. Channels are compared where unit and side are the same, and the name; of voltages and currents
+without a namesake those of the same phase, or those that --map names.
 
 Exit status: 0 success; 1 an error in the files, or a file that cannot be read or written; 2 usage error.";
 
@@ -117,14 +129,6 @@ fn show<'a>(alloc: Global) -> Result<Command<'a>, AllocError>
     with_output(alloc, json)
 }
 
-fn check<'a>(alloc: Global) -> Result<Command<'a>, AllocError>
-    ensures { IfOk result (IsCommand Spec.check) }
-{
-    let about = "Print the first error of a pair of 1999, or that it has none";
-    let json = with_json(alloc, over_pair(alloc, "check", about)?)?;
-    with_output(alloc, json)
-}
-
 fn csv<'a>(alloc: Global) -> Result<Command<'a>, AllocError>
     ensures { IfOk result (IsCommand Spec.csv) }
 {
@@ -135,22 +139,6 @@ fn csv<'a>(alloc: Global) -> Result<Command<'a>, AllocError>
     let one = with(part, option(alloc, "separator", "TEXT", separator))?;
     let two = with(one, option(alloc, "decimal", "TEXT", decimal))?;
     with_output(alloc, two)
-}
-
-fn plot<'a>(alloc: Global) -> Result<Command<'a>, AllocError>
-    ensures { IfOk result (IsCommand Spec.plot) }
-{
-    let part = over_part(alloc, "plot", "Draw the record as an SVG picture")?;
-    let picture = with_picture(alloc, part)?;
-    with_output(alloc, picture)
-}
-
-fn page<'a>(alloc: Global) -> Result<Command<'a>, AllocError>
-    ensures { IfOk result (IsCommand Spec.page) }
-{
-    let about = "Print a self-contained HTML page that shows the record in a browser";
-    let part = over_part(alloc, "page", about)?;
-    with_output(alloc, part)
 }
 
 /// With the options of a measurement.
@@ -165,17 +153,6 @@ fn with_cursor(alloc: Global, command: Command<'_>) -> Result<Command<'_>, Alloc
     let two = with(one, option(alloc, "reference", "CHANNEL", reference))?;
     let three = with(two, option(alloc, "frequency", "HZ", frequency))?;
     with(three, option(alloc, "phases", "NAMES", phases))
-}
-
-fn measure<'a>(alloc: Global) -> Result<Command<'a>, AllocError>
-    ensures { IfOk result (IsCommand Spec.measure) }
-{
-    let about =
-        "Print fault inceptions; at a moment or in a window rms, phasors, harmonics, sequences";
-    let part = over_part(alloc, "measure", about)?;
-    let cursor = with_cursor(alloc, part)?;
-    let json = with_json(alloc, cursor)?;
-    with_output(alloc, json)
 }
 
 /// The file of detectors.
@@ -268,21 +245,72 @@ fn extract<'a>(alloc: Global) -> Result<Command<'a>, AllocError>
     with(bare, word(alloc, "DIR", folder))
 }
 
-/// A command over folders and files.
-fn named<'a>(alloc: Global, name: &'a str, about: &'a str) -> Result<Command<'a>, AllocError>
+/// A command over folders and files, with the end of its help.
+fn named<'a>(
+    alloc: Global,
+    name: &'a str,
+    about: &'a str,
+    end: &'a str,
+) -> Result<Command<'a>, AllocError>
     ensures { IfOk result (IsCommand (Spec.named name.entry.now)) }
 {
-    let bare = command(alloc, name, about, SURVEY_STATUS);
+    let bare = command(alloc, name, about, end);
     let names = "Folders with records, and records";
     let one = with(bare, words(alloc, "NAMES", names))?;
     with(one, recursive(alloc))
+}
+
+/// The same over a part of each record.
+fn over_parts<'a>(alloc: Global, name: &'a str, about: &'a str) -> Result<Command<'a>, AllocError>
+    ensures { IfOk result (IsCommand (Spec.over_parts name.entry.now)) }
+{
+    let names = named(alloc, name, about, BATCH_STATUS)?;
+    with_part(alloc, names)
+}
+
+fn check<'a>(alloc: Global) -> Result<Command<'a>, AllocError>
+    ensures { IfOk result (IsCommand Spec.check) }
+{
+    let about = "Print the first error of each pair of 1999, or that it has none";
+    let json = with_json(alloc, named(alloc, "check", about, BATCH_STATUS)?)?;
+    with_output(alloc, json)
+}
+
+fn plot<'a>(alloc: Global) -> Result<Command<'a>, AllocError>
+    ensures { IfOk result (IsCommand Spec.plot) }
+{
+    let about = "Draw a record as an SVG picture; \
+        of several, write a picture of each into the folder of -o";
+    let part = over_parts(alloc, "plot", about)?;
+    let picture = with_picture(alloc, part)?;
+    with_output(alloc, picture)
+}
+
+fn page<'a>(alloc: Global) -> Result<Command<'a>, AllocError>
+    ensures { IfOk result (IsCommand Spec.page) }
+{
+    let about = "Print an HTML page that shows a record in a browser; \
+        of several, write a page of each into the folder of -o";
+    let part = over_parts(alloc, "page", about)?;
+    with_output(alloc, part)
+}
+
+fn measure<'a>(alloc: Global) -> Result<Command<'a>, AllocError>
+    ensures { IfOk result (IsCommand Spec.measure) }
+{
+    let about =
+        "Print fault inceptions; at a moment or in a window rms, phasors, harmonics, sequences";
+    let part = over_parts(alloc, "measure", about)?;
+    let cursor = with_cursor(alloc, part)?;
+    let json = with_json(alloc, cursor)?;
+    with_output(alloc, json)
 }
 
 /// A command that lists what is in many records.
 fn over_names<'a>(alloc: Global, name: &'a str, about: &'a str) -> Result<Command<'a>, AllocError>
     ensures { IfOk result (IsCommand (Spec.over_names name.entry.now)) }
 {
-    let filter = with_filter(alloc, named(alloc, name, about)?)?;
+    let filter = with_filter(alloc, named(alloc, name, about, SURVEY_STATUS)?)?;
     let json = with_json(alloc, filter)?;
     let encoding = with_encoding(alloc, json)?;
     with_output(alloc, encoding)
@@ -314,7 +342,8 @@ fn fault_names<'a>(alloc: Global) -> Result<Command<'a>, AllocError>
     let about =
         "Print each fault: type, inception, clearing, breaker time, and how certain that is";
     let long = "Print a block for each fault: phasors, contacts, and what each conclusion rests on";
-    with(named(alloc, "fault", about)?, flag(alloc, "long", long))
+    let names = named(alloc, "fault", about, SURVEY_STATUS)?;
+    with(names, flag(alloc, "long", long))
 }
 
 fn fault<'a>(alloc: Global) -> Result<Command<'a>, AllocError>
@@ -325,18 +354,35 @@ fn fault<'a>(alloc: Global) -> Result<Command<'a>, AllocError>
     with_output(alloc, encoding)
 }
 
-fn compare<'a>(alloc: Global) -> Result<Command<'a>, AllocError>
-    ensures { IfOk result (IsCommand Spec.compare) }
+fn report<'a>(alloc: Global) -> Result<Command<'a>, AllocError>
+    ensures { IfOk result (IsCommand Spec.report) }
 {
-    let about =
-        "Overlay two records in one SVG picture, and print how far same-named channels differ";
+    let about = "Print one HTML file on all records: list, events, faults, pictures, pages, doubts";
+    let encoding = with_encoding(alloc, named(alloc, "report", about, SURVEY_STATUS)?)?;
+    with_output(alloc, encoding)
+}
+
+/// The names of `compare`, and how the records and their channels are laid beside each other.
+fn compare_names<'a>(alloc: Global) -> Result<Command<'a>, AllocError>
+    ensures { IfOk result (IsCommand Spec.compare_names) }
+{
+    let about = "Overlay two records in one SVG picture, and print how far their channels differ";
     let bare = command(alloc, "compare", about, COMPARE_STATUS);
     let by =
-        "Align the records by instant (default) or trigger [possible values: instant, trigger]";
+        "Align by instant (default), trigger or fault [possible values: instant, trigger, fault]";
+    let shift = "Move B by so many milliseconds";
+    let map = "Channels of A and the channels of B that belong to them, as UA=VA,IA=IL1";
     let one = with(bare, word(alloc, "A", "The first record"))?;
     let two = with(one, word(alloc, "B", "The record to overlay"))?;
     let three = with(two, option(alloc, "by", "WHAT", by))?;
-    let part = with_part(alloc, three)?;
+    let four = with(three, option(alloc, "shift", "MS", shift))?;
+    with(four, option(alloc, "map", "PAIRS", map))
+}
+
+fn compare<'a>(alloc: Global) -> Result<Command<'a>, AllocError>
+    ensures { IfOk result (IsCommand Spec.compare) }
+{
+    let part = with_part(alloc, compare_names(alloc)?)?;
     let picture = with_picture(alloc, part)?;
     with_output(alloc, picture)
 }
@@ -361,6 +407,7 @@ fn surveys<'a>(alloc: Global, program: Command<'a>) -> Result<Command<'a>, Alloc
         .subcommand(list(alloc)?)?
         .subcommand(events(alloc)?)?
         .subcommand(fault(alloc)?)?
+        .subcommand(report(alloc)?)?
         .subcommand(compare(alloc)?)
 }
 

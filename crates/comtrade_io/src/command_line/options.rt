@@ -70,8 +70,8 @@ pub(crate) fn with<'a>(command: Command<'a>, arg: Arg<'a>) -> Result<Command<'a>
 pub(crate) fn with_encoding(alloc: Global, command: Command<'_>) -> Result<Command<'_>, AllocError>
     ensures { (a : App) → IsCommand a command.entry → IfOk result (IsCommand (Spec.with_encoding a)) }
 {
-    let help = "The encoding of names that are not ASCII [possible values: utf-8, latin1, \
-        windows-1251, windows-1252, cp437, cp850, cp866, gbk, shift_jis]";
+    let help = "The encoding of names that are not ASCII [possible values: utf-8, utf-16, \
+        latin1, windows-1251, windows-1252, cp437, cp850, cp866, gbk, shift_jis]";
     with(command, option(alloc, "encoding", "NAME", help))
 }
 

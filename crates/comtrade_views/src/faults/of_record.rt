@@ -10,7 +10,7 @@ use crate::faults::words::{cause_words, has_doubt};
 use crate::instant::put_instant;
 use crate::json::text_of;
 use crate::number::ordinal;
-use crate::times::times_since_trigger;
+use crate::times::{time_at, times_since_trigger};
 use comtrade_fault::{Found, Kind, disturbances_of};
 use comtrade_format::File;
 use comtrade_io::ToolFault;
@@ -83,6 +83,34 @@ fn trigger_of<A: Allocator>(alloc: Global, file: &File<A>) -> Result<String, All
     let mut text = Vec::new(alloc);
     put_instant(&mut text, file.head.trigger as i128)?;
     text_of(alloc, &text)
+}
+
+/// The row in which the first of the faults begins, of whichever currents; None where none is found.
+fn first_row(all: &[Found]) -> Option<usize> {
+    let mut first = None;
+    for found in all {
+        if let (Kind::Fault(_), Some(row)) = (found.disturbance.kind, inception_of(found)) {
+            first = Some(match first {
+                Some(least) => row.min(least),
+                None => row,
+            });
+        }
+    }
+    first
+}
+
+/// When the first fault of a record begins, in nanoseconds since its trigger; None where none is
+/// found, or the row has no time.
+pub fn first_fault_of<A: Allocator + Copy>(
+    lists: A,
+    file: &File<A>,
+) -> Result<Option<i64>, ToolFault> {
+    let times = times_since_trigger(lists, file)?;
+    let all = disturbances_of(lists, file)?;
+    Ok(match first_row(&all) {
+        Some(row) => time_at(&times, row),
+        None => None,
+    })
 }
 
 /// The faults of a record of this name.

@@ -3,6 +3,7 @@
 use crate::faults::block::put_block;
 use crate::faults::members::{AllMembers, RecordFaults, UnreadMembers};
 use crate::faults::table::{fault_table, none_table};
+use crate::html::{put_html, put_html_table};
 use crate::json::{put_json, text_of};
 use crate::table::put_table;
 use comtrade_io::ToolFault;
@@ -113,6 +114,41 @@ pub fn put_fault_blocks(
         }
     }
     put_rest(alloc, out, faults)?;
+    Ok(())
+}
+
+/// A block for each fault in HTML.
+fn put_blocks_html(
+    alloc: Global,
+    out: &mut Vec<u8>,
+    record: &RecordFaults,
+) -> Result<(), AllocError> {
+    for (i, fault) in record.faults.iter().enumerate() {
+        let mut block = Vec::new(alloc);
+        put_block(alloc, &mut block, record, fault, i)?;
+        put(out, "<pre>")?;
+        put_html(out, &block)?;
+        put(out, "</pre>\n")?;
+    }
+    Ok(())
+}
+
+/// The same in HTML: a line for each fault, then the records without one, then a block for each
+/// fault.
+pub fn put_faults_html(alloc: Global, out: &mut Vec<u8>, faults: &Faults) -> Result<(), ToolFault> {
+    let records = faults.members.records.as_slice();
+    if with_fault(records) != 0 {
+        put_html_table(out, &fault_table(alloc, records)?)?;
+    }
+    if without_fault(records) != 0 {
+        put_html_table(out, &none_table(alloc, records)?)?;
+    }
+    put(out, "<p>")?;
+    put_counts(out, faults)?;
+    put(out, "</p>\n")?;
+    for record in records {
+        put_blocks_html(alloc, out, record)?;
+    }
     Ok(())
 }
 

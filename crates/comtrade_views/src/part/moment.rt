@@ -58,6 +58,11 @@ fn millis_of(text: &str) -> Option<i128> {
     Some(if is_before { -nanos } else { nanos })
 }
 
+/// Milliseconds as a decimal without an exponent, in nanoseconds; None for other texts.
+pub fn nanos_in(text: &str) -> Option<i64> {
+    i64::try_from(millis_of(text)?).ok()
+}
+
 /// A number of one or two digits.
 fn small(text: &str) -> Option<i8> {
     i8::try_from(digits(text)?).ok()

@@ -1,13 +1,13 @@
 //! The part of a record that a user asks for.
 
-use crate::part::cut::cut_of;
+use crate::part::cut::{First, cut_head, cut_of, cut_piece};
 use crate::part::fault::PartFault;
-use crate::part::names::channels_of;
-use crate::part::rows::rows_between;
+use crate::part::names::{Channels, channels_of};
+use crate::part::rows::{rows_among, rows_between};
 use crate::part::side::turn;
-use comtrade_format::File;
+use comtrade_format::{Border, File, Head, Row};
 use comtrade_io::Part;
-use comtrade_values::Items;
+use comtrade_values::{Items, Memory};
 use dfr_channels::{AnalogChannel, Side};
 use std::alloc::{Allocator, Global};
 use std::mem;
@@ -39,21 +39,21 @@ fn turn_all<A: Allocator>(channels: &mut [AnalogChannel<A>], side: Side) -> Resu
     Ok(())
 }
 
-/// The file with all values on the side that is asked for.
+/// The head with all values on the side that is asked for.
 fn on_side<'a, A: Allocator>(
     alloc: A,
-    file: File<A>,
+    head: Head<A>,
     side: Option<Side>,
-) -> Result<File<A>, PartFault<'a>> {
+) -> Result<Head<A>, PartFault<'a>> {
     let Some(side) = side else {
-        return Ok(file);
+        return Ok(head);
     };
-    let File { mut head, rows } = file;
+    let mut head = head;
     let mut analog = mem::replace(&mut head.analog, Items::of(Vec::new(alloc))).into_vec();
     let turned = turn_all(&mut analog, side);
     head.analog = Items::of(analog);
     match turned {
-        Ok(()) => Ok(File { head, rows }),
+        Ok(()) => Ok(head),
         Err(number) => Err(PartFault::Ratio(number)),
     }
 }
@@ -86,10 +86,60 @@ pub fn part_of<'a, A: Allocator + Copy>(
     if channels.analog.is_empty() && channels.status.is_empty() {
         return Err(PartFault::Empty);
     }
-    let file = on_side(alloc, cut_of(alloc, file, rows, &channels)?, side)?;
+    let File { head, rows: kept } = cut_of(alloc, file, rows, &channels)?;
+    let head = on_side(alloc, head, side)?;
     Ok(Cut {
-        file,
+        file: File { head, rows: kept },
         from: rows.from,
         to: rows.to,
     })
+}
+
+/// A part of a record whose rows come piece by piece: its head, and what it takes of the rows.
+#[derive(Drop)]
+pub struct CutPlan<A: Allocator = Global> {
+    pub head: Head<A>,
+    channels: Channels<A>,
+    /// The index, from 0, of its first row in the whole record.
+    pub from: usize,
+    /// The index after its last row.
+    pub to: usize,
+}
+
+/// The part that is asked for, as `part_of` has it, of a record with this head and so many rows,
+/// whose times the rates give, this one the interval across each border. It cannot be asked for only
+/// the contacts that change.
+pub fn plan_of<'a, A: Allocator + Copy>(
+    alloc: A,
+    head: &Head<A>,
+    border: Border,
+    count: usize,
+    part: Part<'a>,
+) -> Result<CutPlan<A>, PartFault<'a>> {
+    let side = side_of(part)?;
+    let unread: Vec<Row<A>, A> = Vec::new(alloc);
+    let rows = rows_among(head, border, count, &unread, (part.from, part.to))?;
+    let channels = channels_of(alloc, head, &unread, part.channels, false)?;
+    if channels.analog.is_empty() && channels.status.is_empty() {
+        return Err(PartFault::Empty);
+    }
+    let first = First {
+        border,
+        stamp: None,
+    };
+    let cut = cut_head(alloc, head, first, rows, &channels)?;
+    Ok(CutPlan {
+        head: on_side(alloc, cut, side)?,
+        channels,
+        from: rows.from,
+        to: rows.to,
+    })
+}
+
+impl<A: Allocator + Copy> CutPlan<A> {
+    /// What the part has of these rows, numbered from `first` on. They have no stamps: the rates
+    /// give their times.
+    pub fn rows(&self, alloc: A, rows: &[Row<A>], first: u64) -> Result<Items<Row<A>, A>, Memory> {
+        cut_piece(alloc, rows, &self.channels, first, None)
+    }
 }

@@ -1,4 +1,4 @@
 use Rattle.comtrade_io.proofs.command_line.commands.check.Goals as goal
 
 pub returns : goal.returns
-returns c = c.with_output.ensures _ (c.in_ok-json.ensures _ c.in_ok-over_pair.ensures)
+returns c = c.with_output.ensures _ (c.in_ok-json.ensures _ c.in_ok-named.ensures)

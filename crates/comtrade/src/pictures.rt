@@ -1,0 +1,151 @@
+//! A picture or a page of each of many records, as files of a folder.
+
+use crate::each::{Told, put_each};
+use crate::ending::{folder_of, stem_of};
+use crate::folder::Pairs;
+use crate::load::read_record;
+use crate::output::named_file;
+use crate::survey::NOT_UTF8;
+use crate::wanted::{Product, Wanted};
+use crate::write::write_new;
+use crate::{complain, note_size, print_bytes, say};
+use comtrade_io::{Batched, Names, ToolFault, fault_of, put_safe};
+use comtrade_values::put;
+use std::alloc::{AllocError, Global};
+use std::fs;
+use std::rt::Files;
+
+/// What a file of a picture or page ends with.
+fn ending_of(product: Product) -> &'static str {
+    if product == Product::Page {
+        ".html"
+    } else {
+        ".svg"
+    }
+}
+
+/// The name that the files of a record share, without its folder.
+fn own_name(record: &str) -> &str {
+    folder_of(stem_of(record).1).1
+}
+
+/// Whether another of the records has the same own name, in upper or lower case.
+fn is_shared(records: &[String], name: &str) -> bool {
+    let same = records.iter().filter(|record| own_name(record.as_str()).eq_ignore_ascii_case(name));
+    same.count() > 1
+}
+
+/// The name of a record with those of its folders before it, joined by a minus.
+fn joined_name(alloc: Global, record: &str) -> Result<String, AllocError> {
+    let mut name = String::new(alloc);
+    for piece in stem_of(record).1.split('/') {
+        if matches!(piece, "" | "." | "..") {
+            continue;
+        }
+        if !name.is_empty() {
+            name.push_str("-")?;
+        }
+        name.push_str(piece)?;
+    }
+    Ok(name)
+}
+
+/// The file for a record's picture: named as the record, with its folders where another record has
+/// the same name.
+fn file_for(
+    alloc: Global,
+    folder: &str,
+    records: &[String],
+    record: &str,
+    ending: &str,
+) -> Result<String, AllocError> {
+    let own = own_name(record);
+    let mut file = String::from_str(alloc, folder)?;
+    if !folder.ends_with('/') {
+        file.push_str("/")?;
+    }
+    if own == "-" {
+        file.push_str("standard-input")?;
+    } else if is_shared(records, own) {
+        file.push_str(joined_name(alloc, record)?.as_str())?;
+    } else {
+        file.push_str(own)?;
+    }
+    file.push_str(ending)?;
+    Ok(file)
+}
+
+/// Writes what is asked of a record to a file, and prints its name; false if that fails, which is
+/// printed.
+fn write_each<R: Files + Input + Print + Eprint + AllocGlobal + Clone + Drop>(
+    rt: &R,
+    is_watched: bool,
+    wanted: Wanted<'_>,
+    record: &str,
+    file: &str,
+) -> Result<bool, ToolFault> {
+    let names = Names {
+        file: record,
+        dat: None,
+    };
+    let Some(inputs) = read_record(rt, names, wanted.part.strict) else {
+        return Ok(false);
+    };
+    note_size(rt, is_watched, &inputs);
+    let mut zone = None;
+    let mut out = Vec::new(rt.alloc());
+    let told = put_each(rt, &mut zone, wanted, record, &inputs, &mut out)?;
+    if matches!(&told, Told::Refused(_)) || !write_new(rt, file, &out) {
+        return Ok(false);
+    }
+    let mut line = Vec::new(rt.alloc());
+    put_safe(&mut line, file.as_bytes())?;
+    put(&mut line, "\n")?;
+    Ok(print_bytes(rt, &line) == 0)
+}
+
+/// Writes a file for each record into a folder. Whether all were written.
+fn write_all<R: Files + Input + Print + Eprint + AllocGlobal + Clone + Drop>(
+    rt: &R,
+    is_watched: bool,
+    wanted: Wanted<'_>,
+    pairs: &Pairs,
+    folder: &str,
+) -> Result<bool, ToolFault> {
+    let mut is_whole = pairs.is_whole && pairs.odd.is_empty();
+    for name in &pairs.odd {
+        let mut text = Vec::from_slice(rt.alloc(), name)?;
+        put(&mut text, NOT_UTF8)?;
+        say(rt, &text);
+    }
+    let ending = ending_of(wanted.product);
+    for record in &pairs.names {
+        let file = file_for(rt.alloc(), folder, &pairs.names, record.as_str(), ending)?;
+        if !write_each(rt, is_watched, wanted, record.as_str(), file.as_str())? {
+            is_whole = false;
+        }
+    }
+    Ok(is_whole)
+}
+
+/// Writes a picture or page of each of many records into the folder that is named, which is made if
+/// it does not exist. The status is 1 if one cannot be written.
+pub(crate) fn run_pictures<R: Files + Input + Print + Eprint + AllocGlobal + Clone + Drop>(
+    rt: &R,
+    is_watched: bool,
+    wanted: Wanted<'_>,
+    pairs: &Pairs,
+    asked: &Batched<'_>,
+) -> u8 {
+    let Some(folder) = named_file(asked.output) else {
+        return 2;
+    };
+    if let Err(error) = fs::create_dir_all(rt, folder) {
+        return complain(rt, folder, fault_of(error.kind(), ToolFault::Output));
+    }
+    match write_all(rt, is_watched, wanted, pairs, folder) {
+        Ok(true) => 0,
+        Ok(false) => 1,
+        Err(fault) => complain(rt, "records", fault),
+    }
+}

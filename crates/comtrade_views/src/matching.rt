@@ -1,0 +1,278 @@
+//! Channels of two records that belong to each other, though their names differ.
+
+ghost use Rattle.std.specs.Prelude.{◌↔◌, IsTrue};
+ghost use Rattle.comtrade_views.specs.Matching.{AreAlike, AreOneKind, AreOnePhase};
+
+use crate::cycles::place_of;
+use comtrade_analysis::phase_of;
+use comtrade_fault::{is_current, is_voltage};
+use comtrade_format::{File, Head};
+use comtrade_io::{ToolFault, put_safe};
+use comtrade_values::{Decimal, Items, put};
+use dfr_channels::AnalogChannel;
+use std::alloc::{AllocError, Allocator};
+use std::mem;
+
+/// A channel of the first record and the one of the second that belongs to it, by their indices.
+#[derive(Clone, Copy)]
+struct Match {
+    one: usize,
+    other: usize,
+}
+
+/// Whether two units are both of a current, or both of a voltage.
+fn are_one_kind(one: &[u8], other: &[u8]) -> bool
+    ensures { IsTrue result ↔ AreOneKind one.now other.now }
+{
+    (is_current(one) && is_current(other)) || (is_voltage(one) && is_voltage(other))
+}
+
+/// Whether two channels measure the same phase, which is known.
+fn are_one_phase<A: Allocator>(one: &AnalogChannel<A>, other: &AnalogChannel<A>) -> bool
+    ensures { IsTrue result ↔ AreOnePhase one.now other.now }
+{
+    let phase = phase_of(one);
+    phase.is_some() && phase == phase_of(other)
+}
+
+/// Whether two channels measure the same: a voltage, or a current, of one phase, on one side.
+fn are_alike<A: Allocator>(one: &AnalogChannel<A>, other: &AnalogChannel<A>) -> bool
+    ensures { IsTrue result ↔ AreAlike one.now other.now }
+{
+    are_one_kind(one.unit.items(), other.unit.items())
+        && are_one_phase(one, other)
+        && one.side == other.side
+}
+
+/// The power of ten of a unit's prefix, and the unit without it.
+fn prefix_of(unit: &[u8]) -> (i8, &[u8]) {
+    match unit {
+        [b'k', rest @ ..] if !rest.is_empty() => (3, rest),
+        [b'M', rest @ ..] if !rest.is_empty() => (6, rest),
+        [b'm', rest @ ..] if !rest.is_empty() => (-3, rest),
+        _ => (0, unit),
+    }
+}
+
+/// A number times a power of ten; None where it has too many digits or places.
+fn scaled(value: Decimal, power: i8) -> Option<Decimal> {
+    let places = i16::from(value.places()).checked_sub(i16::from(power))?;
+    if 0 <= places {
+        return Decimal::new(value.units(), u8::try_from(places).ok()?);
+    }
+    let factor = 10u64.checked_pow(u32::from(places.unsigned_abs()))?;
+    Decimal::new(value.units().checked_mul(i128::from(factor))?, 0)
+}
+
+/// The factor and the offset of a channel for values in this unit; None where it isn't the
+/// channel's with another prefix.
+fn factors_in<A: Allocator>(channel: &AnalogChannel<A>, unit: &[u8]) -> Option<(Decimal, Decimal)> {
+    let (from, base) = prefix_of(channel.unit.items());
+    let (to, wanted) = prefix_of(unit);
+    if base != wanted {
+        return None;
+    }
+    let power = from.checked_sub(to)?;
+    Some((scaled(channel.a, power)?, scaled(channel.b, power)?))
+}
+
+/// The one channel that is alike; None where none or several are.
+fn only_alike<A: Allocator>(one: &AnalogChannel<A>, others: &[AnalogChannel<A>]) -> Option<usize> {
+    let mut found = None;
+    for (place, other) in others.iter().enumerate() {
+        if are_alike(one, other) {
+            if found.is_some() {
+                return None;
+            }
+            found = Some(place);
+        }
+    }
+    found
+}
+
+/// Whether one of the channels has this name.
+fn has_name<A: Allocator>(channels: &[AnalogChannel<A>], name: &[u8]) -> bool {
+    for channel in channels {
+        if channel.id.items() == name {
+            return true;
+        }
+    }
+    false
+}
+
+/// The channel of the second record that belongs to one of the first: neither has a namesake in the
+/// other record, each is the only one there that is alike, and their units differ only by a prefix.
+fn alike_of<A: Allocator>(
+    ones: &[AnalogChannel<A>],
+    others: &[AnalogChannel<A>],
+    one: usize,
+) -> Option<Match> {
+    let channel = ones.get(one)?;
+    if has_name(others, channel.id.items()) {
+        return None;
+    }
+    let other = only_alike(channel, others)?;
+    let beside = others.get(other)?;
+    if has_name(ones, beside.id.items()) || only_alike(beside, ones)? != one {
+        return None;
+    }
+    factors_in(beside, channel.unit.items())?;
+    Some(Match { one, other })
+}
+
+/// The channels that a pair of names such as `UA=VA` means, if their units differ only by a prefix.
+fn match_named<A: Allocator>(one: &Head<A>, other: &Head<A>, pair: &str) -> Option<Match> {
+    let (left, right) = pair.split_once('=')?;
+    let found = Match {
+        one: place_of(one, left.trim())?,
+        other: place_of(other, right.trim())?,
+    };
+    let channel = one.analog.items().get(found.one)?;
+    factors_in(other.analog.items().get(found.other)?, channel.unit.items())?;
+    Some(found)
+}
+
+/// Whether one of these channels has been matched.
+fn is_matched(matches: &[Match], found: Match) -> bool {
+    for pair in matches {
+        if pair.one == found.one || pair.other == found.other {
+            return true;
+        }
+    }
+    false
+}
+
+/// A copy of a text.
+fn copy_of<A: Allocator>(alloc: A, text: &Items<u8, A>) -> Result<Items<u8, A>, AllocError> {
+    Ok(Items::of(Vec::from_slice(alloc, text.items())?))
+}
+
+/// Gives a channel of the second record the name, phase, component and unit of the one of the first,
+/// if its unit allows that; a namesake beside it gets its own name in exchange.
+fn name_as<A: Allocator + Copy>(
+    alloc: A,
+    one: &AnalogChannel<A>,
+    others: &mut [AnalogChannel<A>],
+    place: usize,
+) -> Result<(), AllocError> {
+    let Some(other) = others.get(place) else {
+        return Ok(());
+    };
+    let Some((a, b)) = factors_in(other, one.unit.items()) else {
+        return Ok(());
+    };
+    let own = Vec::from_slice(alloc, other.id.items())?;
+    for other in others.iter_mut() {
+        if other.id.items() == one.id.items() {
+            other.id = Items::of(Vec::from_slice(alloc, &own)?);
+        }
+    }
+    if let Some(other) = others.get_mut(place) {
+        other.id = copy_of(alloc, &one.id)?;
+        other.phase = copy_of(alloc, &one.phase)?;
+        other.component = copy_of(alloc, &one.component)?;
+        other.unit = copy_of(alloc, &one.unit)?;
+        other.a = a;
+        other.b = b;
+    }
+    Ok(())
+}
+
+/// A line for each channel of the first record, with the one that it is compared with.
+fn put_matches<A: Allocator>(
+    told: &mut Vec<u8, A>,
+    one: &File<A>,
+    other: &File<A>,
+    matches: &[Match],
+) -> Result<(), AllocError> {
+    let (ones, others) = (one.head.analog.items(), other.head.analog.items());
+    for pair in matches {
+        if let (Some(one), Some(other)) = (ones.get(pair.one), others.get(pair.other)) {
+            put_safe(told, one.id.items())?;
+            put(told, " is compared with ")?;
+            put_safe(told, other.id.items())?;
+            put(told, "\n")?;
+        }
+    }
+    Ok(())
+}
+
+/// Gives channels of the second record the names of those of the first that they belong to.
+fn name_all<A: Allocator + Copy>(
+    alloc: A,
+    one: &File<A>,
+    other: &mut File<A>,
+    matches: &[Match],
+) -> Result<(), AllocError> {
+    let ones = one.head.analog.items();
+    let list = &mut other.head.analog;
+    let mut channels = mem::replace(list, Items::of(Vec::new(alloc))).into_vec();
+    let mut named = Ok(());
+    for pair in matches {
+        if let Some(one) = ones.get(pair.one) {
+            if named.is_ok() {
+                named = name_as(alloc, one, &mut channels, pair.other);
+            }
+        }
+    }
+    other.head.analog = Items::of(channels);
+    named
+}
+
+/// The channels that pairs such as `UA=VA,IA=IL1` mean, if any are given; None where one means none,
+/// or a channel stands twice.
+fn matches_named<A: Allocator + Copy>(
+    alloc: A,
+    one: &File<A>,
+    other: &File<A>,
+    pairs: Option<&str>,
+) -> Result<Option<Vec<Match, A>>, AllocError> {
+    let mut matches = Vec::new(alloc);
+    let Some(pairs) = pairs else {
+        return Ok(Some(matches));
+    };
+    for pair in pairs.split(',') {
+        match match_named(&one.head, &other.head, pair) {
+            Some(found) if !is_matched(&matches, found) => matches.push(found)?,
+            _ => return Ok(None),
+        }
+    }
+    Ok(Some(matches))
+}
+
+/// The channels that belong to each other by what they measure.
+fn matches_alike<A: Allocator + Copy>(
+    alloc: A,
+    one: &File<A>,
+    other: &File<A>,
+) -> Result<Vec<Match, A>, AllocError> {
+    let (ones, others) = (one.head.analog.items(), other.head.analog.items());
+    let mut matches = Vec::new(alloc);
+    for place in 0..ones.len() {
+        if let Some(found) = alike_of(ones, others, place) {
+            matches.push(found)?;
+        }
+    }
+    Ok(matches)
+}
+
+/// Gives channels of the second record the names of those of the first that belong to them: those of
+/// pairs such as `UA=VA,IA=IL1`, then those of the same phase and kind where no names are equal.
+/// `told` gets a line for each. False where the pairs do not name channels of one unit, each once.
+pub fn match_channels<A: Allocator + Copy>(
+    alloc: A,
+    one: &File<A>,
+    other: &mut File<A>,
+    pairs: Option<&str>,
+    told: &mut Vec<u8, A>,
+) -> Result<bool, ToolFault> {
+    let Some(matches) = matches_named(alloc, one, other, pairs)? else {
+        return Ok(false);
+    };
+    put_matches(told, one, other, &matches)?;
+    name_all(alloc, one, other, &matches)?;
+    let matches = matches_alike(alloc, one, other)?;
+    put_matches(told, one, other, &matches)?;
+    name_all(alloc, one, other, &matches)?;
+    Ok(true)
+}
