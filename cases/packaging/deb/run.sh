@@ -21,7 +21,7 @@ dpkg-deb -c "$work/one/dfr_${version}_amd64.deb" | awk '{ print $1, $2, $6 }' | 
 echo "== programs"
 dpkg-deb -x "$work/one/dfr_${version}_amd64.deb" "$work/deb"
 tar -C "$work" -xzf "$work/one/dfr-$version-linux-x86_64.tar.gz"
-for name in dfr dfrd comtrade; do
+for name in dfr dfrd dfrbus comtrade; do
     cmp "${!name}" "$work/deb/usr/bin/$name" && cmp "${!name}" "$work/dfr-$version-linux-x86_64/bin/$name" && echo "$name"
 done
 (cd "$work/deb" && md5sum --quiet -c "$work/control/md5sums") && echo "md5sums"

@@ -44,6 +44,6 @@ for words in "" "--hlep" "a b" "--uninstall" "--uninstall --help"; do
     # shellcheck disable=SC2086
     "$here/../install" $words > said
     echo "status $?"
-done 2>&1 | grep -v '^ \|^$\|^[Imf]'
+done 2>&1 | grep -v '^ \|^$\|^[Ipa]'
 "$here/../install" --uninstall "$folder/nowhere" 2>&1 | shown
 find . -type d | LC_ALL=C sort

@@ -32,7 +32,7 @@ cp "$root/etc/dfrd/example.setup" "$root/etc/dfrd/bay3.setup"
 apart --nodeps --noscripts -U "$rpm"
 apart -q dfr | sed "s/$version/VERSION/"
 apart -V --nodeps dfr
-for name in dfr dfrd comtrade; do cmp "${!name}" "$root/usr/bin/$name" && echo "$name"; done
+for name in dfr dfrd dfrbus comtrade; do cmp "${!name}" "$root/usr/bin/$name" && echo "$name"; done
 echo "== removed"
 apart --noscripts -e dfr | sed "s|$root||"
 find "$root" -path "$root/var" -prune -o -type f -print | sed "s|$root||" | sort
