@@ -13,7 +13,7 @@ ghost use Rattle.dfr_capture.specs.Rows.{row, missing_in, each_scan};
 use crate::feed::{Event, Feed, LostReading};
 use crate::listening::Listening;
 use crate::plan::Plan;
-use crate::row::{put_missing, put_row};
+use crate::row::put_row;
 use crate::stream::stream_of;
 use crate::unit::Unit;
 use dfr_bay::{Arrival, Bay};
@@ -77,8 +77,7 @@ fn put_scans<A: Allocator>(
     let mut at = 0;
     while scans.len() - at >= streams {
         let scan = &scans[at..at + streams];
-        put_row(lines, plan, scan)?;
-        put_missing(missing, plan, scan)?;
+        put_row(lines, missing, plan, scan)?;
         at += streams;
     }
     Ok(())

@@ -40,31 +40,51 @@ fn put_comma<A: Allocator>(out: &mut Vec<u8, A>, n: usize) -> Result<(), AllocEr
     if n > 0 { put(out, ",") } else { Ok(()) }
 }
 
-/// Appends the reading of channel n.
+/// Appends the reading of channel n, if it is missing.
+fn put_lost<A: Allocator>(
+    out: &mut Vec<LostReading, A>,
+    n: usize,
+    reading: Result<i32, Lost>,
+) -> Result<(), AllocError>
+    ensures { OnOk result (out.new.items ≡ out.old.items ++ spec.lost_of n reading) }
+{
+    if let Err(why) = reading {
+        out.push(LostReading { channel: n, why })?;
+    }
+    Ok(())
+}
+
+/// Appends the reading of channel n, and tells if it is missing.
 fn put_channel<A: Allocator>(
     out: &mut Vec<u8, A>,
+    missing: &mut Vec<LostReading, A>,
     scan: &[Option<Unit<A>>],
     n: usize,
     channel: &Channel,
 ) -> Result<(), AllocError>
     requires { 1 ≤ channel.now.divisor }
-    ensures { OnOk result (out.new.items ≡ out.old.items ++ (spec.comma n ++ spec.reading_text (spec.reading_in scan.now channel.now))) }
+    ensures text { OnOk result (out.new.items ≡ out.old.items ++ (spec.comma n ++ spec.reading_text (spec.reading_in scan.now channel.now))) }
+    ensures told { OnOk result (missing.new.items ≡ missing.old.items ++ spec.lost_of n (spec.reading_in scan.now channel.now)) }
 {
+    let reading = reading_in(scan, channel);
     put_comma(out, n)?;
-    put_reading(out, reading_in(scan, channel))
+    put_reading(out, reading)?;
+    put_lost(missing, n, reading)
 }
 
-/// Appends the readings of all channels.
+/// Appends the readings of all channels, and tells those that are missing.
 fn put_readings<A: Allocator>(
     out: &mut Vec<u8, A>,
+    missing: &mut Vec<LostReading, A>,
     scan: &[Option<Unit<A>>],
     channels: &[Channel],
 ) -> Result<(), AllocError>
     requires { All has_divisor channels.now }
-    ensures { OnOk result (out.new.items ≡ out.old.items ++ spec.readings_text scan.now 0 channels.now) }
+    ensures text { OnOk result (out.new.items ≡ out.old.items ++ spec.readings_text scan.now 0 channels.now) }
+    ensures told { OnOk result (missing.new.items ≡ missing.old.items ++ spec.lost_readings scan.now 0 channels.now) }
 {
     for n in 0..channels.len() {
-        put_channel(out, scan, n, &channels[n])?;
+        put_channel(out, missing, scan, n, &channels[n])?;
     }
     Ok(())
 }
@@ -79,18 +99,21 @@ fn put_bits<A: Allocator>(out: &mut Vec<u8, A>, bits: &[bool]) -> Result<(), All
     Ok(())
 }
 
-/// Appends the line of a scan, with these states of the contacts.
+/// Appends the line of a scan, with these states of the contacts, and tells the readings that are
+/// missing in it.
 #[tactic(auto, unfolding(crate::specs::Rows::scan_text))]
 fn put_scan<A: Allocator>(
     out: &mut Vec<u8, A>,
+    missing: &mut Vec<LostReading, A>,
     plan: &Plan<A>,
     scan: &[Option<Unit<A>>],
     bits: &[bool],
 ) -> Result<(), AllocError>
-    ensures { OnOk result (out.new.items ≡ out.old.items ++ spec.scan_text plan.now scan.now bits.now) }
+    ensures text { OnOk result (out.new.items ≡ out.old.items ++ spec.scan_text plan.now scan.now bits.now) }
+    ensures told { OnOk result (missing.new.items ≡ missing.old.items ++ spec.lost_readings scan.now 0 plan.now.channels) }
 {
     put(out, "scan ")?;
-    put_readings(out, scan, &plan.channels)?;
+    put_readings(out, missing, scan, &plan.channels)?;
     put(out, "/")?;
     put_bits(out, bits)?;
     put(out, "\n")
@@ -131,79 +154,38 @@ fn put_time<A: Allocator>(out: &mut Vec<u8, A>, instant: Option<u64>) -> Result<
     put(out, "\n")
 }
 
-/// Appends the lines of a scan whose first unit this is.
+/// Appends the lines of a scan whose first unit this is, and tells the readings that are missing.
 #[tactic(auto, unfolding(crate::specs::Rows::row_by))]
 fn put_unit_row<A: Allocator>(
     out: &mut Vec<u8, A>,
+    missing: &mut Vec<LostReading, A>,
     plan: &Plan<A>,
     scan: &[Option<Unit<A>>],
     unit: &Unit<A>,
 ) -> Result<(), AllocError>
-    ensures { OnOk result (out.new.items ≡ out.old.items ++ spec.row_by plan.now scan.now (Some unit.now)) }
+    ensures text { OnOk result (out.new.items ≡ out.old.items ++ spec.row_by plan.now scan.now (Some unit.now)) }
+    ensures told { OnOk result (missing.new.items ≡ missing.old.items ++ spec.missing_by plan.now scan.now (Some unit.now)) }
 {
     put_time(out, told_by(plan.dating, unit))?;
-    put_scan(out, plan, scan, &unit.bits)
+    put_scan(out, missing, plan, scan, &unit.bits)
 }
 
-/// Appends the lines of a scan.
+/// Appends the lines of a scan, and tells the readings that are missing in it, unless it is lost.
 #[tactic(auto, using(crate::proofs::Firsts::first_steps))]
 pub(crate) fn put_row<A: Allocator>(
     out: &mut Vec<u8, A>,
+    missing: &mut Vec<LostReading, A>,
     plan: &Plan<A>,
     scan: &[Option<Unit<A>>],
 ) -> Result<(), AllocError>
-    ensures { OnOk result (out.new.items ≡ out.old.items ++ spec.row plan.now scan.now) }
+    ensures text { OnOk result (out.new.items ≡ out.old.items ++ spec.row plan.now scan.now) }
+    ensures told { OnOk result (missing.new.items ≡ missing.old.items ++ spec.missing_in plan.now scan.now) }
 {
     for sample in scan {
         if let Some(unit) = sample {
-            return put_unit_row(out, plan, scan, unit);
+            return put_unit_row(out, missing, plan, scan, unit);
         }
     }
-    put(out, "lost\n")
-}
-
-/// Appends the reading of channel n, if it is missing.
-fn put_lost<A: Allocator>(
-    out: &mut Vec<LostReading, A>,
-    n: usize,
-    reading: Result<i32, Lost>,
-) -> Result<(), AllocError>
-    ensures { OnOk result (out.new.items ≡ out.old.items ++ spec.lost_of n reading) }
-{
-    if let Err(why) = reading {
-        out.push(LostReading { channel: n, why })?;
-    }
-    Ok(())
-}
-
-/// Appends the readings of a scan that are missing.
-fn put_lost_readings<A: Allocator>(
-    out: &mut Vec<LostReading, A>,
-    scan: &[Option<Unit<A>>],
-    channels: &[Channel],
-) -> Result<(), AllocError>
-    requires { All has_divisor channels.now }
-    ensures { OnOk result (out.new.items ≡ out.old.items ++ spec.lost_readings scan.now 0 channels.now) }
-{
-    for n in 0..channels.len() {
-        put_lost(out, n, reading_in(scan, &channels[n]))?;
-    }
-    Ok(())
-}
-
-/// Appends the readings that are missing in a scan that isn't lost.
-#[tactic(auto, using(crate::proofs::Firsts::first_steps))]
-pub(crate) fn put_missing<A: Allocator>(
-    out: &mut Vec<LostReading, A>,
-    plan: &Plan<A>,
-    scan: &[Option<Unit<A>>],
-) -> Result<(), AllocError>
-    ensures { OnOk result (out.new.items ≡ out.old.items ++ spec.missing_in plan.now scan.now) }
-{
-    for sample in scan {
-        if let Some(_unit) = sample {
-            return put_lost_readings(out, scan, &plan.channels);
-        }
-    }
+    put(out, "lost\n")?;
     Ok(())
 }

@@ -14,10 +14,10 @@ loop-at-preserved g c =
     let within : c.loop-at.at + length c.args.plan.now.streams ≤ length c.args.scans.now = omega (arith, h.within, h.all, c.loop-at-test.true) in
     let size : c.loop-at.at + c.len-streams.result - c.loop-at.at ≡ length c.args.plan.now.streams = omega (arith, h.all) in
     let lines : c.put_row.new.out.items ++ each_scan (row p) n (drop (at + c.len-streams.result) xs) ≡ c.loop-at.lines.items ++ each_scan (row p) n (drop at xs) =
-    rw h.all (scan_more (row p) n at xs _ c.loop-at.lines.items c.put_row.new.out.items some within (ap (λ (k : ℕ). take k (drop at xs)) size) c.in_ok-put_row.ensures) in
-    let missing : c.put_missing.new.out.items ++ each_scan (missing_in p) n (drop (at + c.len-streams.result) xs)
+    rw h.all (scan_more (row p) n at xs _ c.loop-at.lines.items c.put_row.new.out.items some within (ap (λ (k : ℕ). take k (drop at xs)) size) c.in_ok-put_row.ensures.text) in
+    let missing : c.put_row.new.missing.items ++ each_scan (missing_in p) n (drop (at + c.len-streams.result) xs)
     ≡ c.loop-at.missing.items ++ each_scan (missing_in p) n (drop at xs) =
-    rw h.all (scan_more (missing_in p) n at xs _ c.loop-at.missing.items c.put_missing.new.out.items some within (ap (λ (k : ℕ). take k (drop at xs)) size) c.in_ok-put_missing.ensures) in
+    rw h.all (scan_more (missing_in p) n at xs _ c.loop-at.missing.items c.put_row.new.missing.items some within (ap (λ (k : ℕ). take k (drop at xs)) size) c.in_ok-put_row.ensures.told) in
     record {
       within = omega (arith, h.within, c.loop-at-test.true);
       all = h.all;
