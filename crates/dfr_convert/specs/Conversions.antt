@@ -93,3 +93,13 @@ abbrev pub TakesIn : (piece : List ℕ) → Result (Unit {0}) Stop → (old : Ke
 TakesIn piece (Err Memory) old before new after = Unit {0}
 TakesIn piece (Err Long) old before new after = (new ≡ old) × (after ≡ before)
 TakesIn piece r old before new after = TakesPiece piece old before new after
+
+-- when the frame came that gave the first lines, after a frame that came at `time`: known is known
+abbrev pub noted : (first : Option ℕ) (lines : List ℕ) (time : ℕ) → Option ℕ
+noted (Some first) lines time = Some first
+noted None [] time = None
+noted None (b ∷ lines) time = Some time
+
+-- what is known stays so
+abbrev pub StaysKnown : (old new : Option ℕ) → Type 0
+StaysKnown old new = (first : ℕ) → old ≡ Some first → new ≡ Some first

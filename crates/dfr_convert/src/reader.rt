@@ -26,6 +26,10 @@ pub struct CaptureLines<'a, I, R> {
     at: usize,
     /// How the capture ended, once it did.
     end: Option<End>,
+    /// Whether a byte came.
+    has_come: bool,
+    /// The nanosecond at which the frame came that gave the first lines.
+    first: Option<u64>,
     ghost within: { at ≤ length feed.lines },
 }
 
@@ -56,7 +60,16 @@ impl<'a, I: Read + Drop, R: Eprint + AllocGlobal> CaptureLines<'a, I, R> {
             feed: Feed::new(rt.alloc()),
             at: 0,
             end: None,
+            has_come: false,
+            first: None,
         })
+    }
+
+    /// The nanosecond since 1970 at which the frame came that gave the first lines, by the capture.
+    pub fn first_time(&self) -> Option<u64>
+        ensures { result ≡ self.now.first }
+    {
+        self.first
     }
 
     /// The capture has ended so.
@@ -75,8 +88,14 @@ impl<'a, I: Read + Drop, R: Eprint + AllocGlobal> CaptureLines<'a, I, R> {
 
     /// The capture is at its end.
     fn end(&mut self) {
-        let is_within = self.conversion.is_within();
-        self.finish(if is_within { End::Cut } else { End::Over });
+        let end = if !self.has_come {
+            End::Empty
+        } else if self.conversion.is_within() {
+            End::Cut
+        } else {
+            End::Over
+        };
+        self.finish(end);
     }
 
     /// Reads a piece, and takes it in.
@@ -87,11 +106,14 @@ impl<'a, I: Read + Drop, R: Eprint + AllocGlobal> CaptureLines<'a, I, R> {
                 Ok(())
             }
             Ok(count) => {
+                self.has_come = true;
                 self.at = 0;
                 clear(&mut self.feed);
-                let taken = self
-                    .conversion
-                    .take_in(&self.piece[..count], &mut self.feed);
+                let taken = self.conversion.take_in(
+                    &self.piece[..count],
+                    &mut self.feed,
+                    &mut self.first,
+                );
                 self.tell(taken);
                 Ok(())
             }

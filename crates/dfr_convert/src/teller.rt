@@ -21,6 +21,8 @@ const NO_CAPTURE: &str = "not a capture of libpcap; write it with `tcpdump -w`, 
 pub enum End {
     /// With the capture.
     Over,
+    /// There was no capture.
+    Empty,
     /// The capture ended within a packet.
     Cut,
     /// Before its end.
@@ -150,6 +152,7 @@ impl<'a, R: Eprint> Teller<'a, R> {
         self.tell_counts("end");
         let _ = match end {
             End::Over => Ok(()),
+            End::Empty => eprintln!(self.rt; "{name}: standard input is empty; expected a capture"),
             End::Cut => eprintln!(self.rt; "{name}: the capture ends within a packet"),
             End::Stopped(Stop::Damaged(0, Wrong::Magic)) => {
                 eprintln!(self.rt; "{name}: {NO_CAPTURE}")

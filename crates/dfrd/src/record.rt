@@ -2,6 +2,7 @@
 
 ghost use Rattle.std.specs.Prelude.{◌<◌, IfSome};
 
+use crate::capture::{Bus, FirstTime, bus_of, reading_at};
 use crate::check::{frame_of, need_of, print_judged};
 use crate::health_file::version;
 use crate::memory::{MemoryFault, affordable, machine_bytes};
@@ -43,6 +44,10 @@ pub(crate) struct Plan {
     pub(crate) rate: u32,
     /// The station's name, as the value of a label of metrics.
     pub(crate) station: Vec<u8>,
+    /// What is recorded of a capture, if the input is one.
+    pub(crate) bus: Option<Bus>,
+    /// When the first scan of a capture came, once it did.
+    first: Option<FirstTime>,
     ghost sized: { 0 < frame },
 }
 
@@ -66,6 +71,16 @@ impl Plan {
             Input::Frames(_) => (true, self.frame),
             Input::Counted(_) => (true, 1),
             Input::Lines => (false, self.frame),
+        }
+    }
+}
+
+impl Plan {
+    /// The microsecond of the first scan, if the input is a stored capture: one that waits.
+    fn stored_at<R: Wait>(&self, rt: &R, waits: bool) -> Option<u64> {
+        match &self.first {
+            Some(first) if waits => first.micros(rt),
+            _ => None,
         }
     }
 }
@@ -128,6 +143,14 @@ pub(crate) fn plan_of<R: Files<File = File> + Print + Eprint + AllocGlobal>(
             if judged.is_err() {
                 return None;
             }
+            let (bus, first) = if asked.is_capture {
+                let Ok((bus, first)) = bus_of(rt, asked, &prepared.inputs, &setup) else {
+                    return None;
+                };
+                (Some(bus), Some(first))
+            } else {
+                (None, None)
+            };
             let frame = frame_of(&prepared.inputs);
             let rate = prepared.inputs.rate();
             let mut station = Vec::new(rt.alloc());
@@ -141,6 +164,8 @@ pub(crate) fn plan_of<R: Files<File = File> + Print + Eprint + AllocGlobal>(
                 frame,
                 rate,
                 station,
+                bus,
+                first,
             })
         }
         Err(refusal) => {
@@ -241,13 +266,17 @@ pub(crate) fn record<
     let Ok(mut first) = read_first(rt, rt.alloc(), &mut input, printer, how) else {
         return out_of_memory(rt);
     };
-    let start = match asked.start {
-        Some(start) => start,
-        None => first.start(plan.rate),
-    };
     let waits = waits(rt, asked);
+    let micros = plan.stored_at(rt, waits);
+    let start = match (asked.start, micros) {
+        (Some(start), _) => start,
+        (None, Some(micros)) => i64::try_from(micros).unwrap_or(0),
+        (None, None) => first.start(plan.rate),
+    };
     if !asked.has_dates(waits) {
         first.clocks = None;
+    } else if let Some(micros) = micros {
+        first.clocks = reading_at(micros, plan.rate);
     } else if !first.is_followed() && !first.is_empty() {
         printer.print(now(rt), Event::Undated);
     }
