@@ -1,12 +1,9 @@
 //! A capture of a process bus as the input: what is recorded of it, its lines, and what dates them.
 
-ghost use Rattle.std.specs.Prelude.{◌≡◌, ◌+◌, ◌*◌};
-
 use crate::outcome::{complain, out_of_memory};
 use crate::words::Asked;
 use dfr_capture::Plan;
 use dfr_channels::Layout;
-use dfr_clock::Reading;
 use dfr_convert::CaptureLines;
 use dfr_plan::plan_of;
 use std::alloc::{AllocError, Global};
@@ -35,10 +32,9 @@ impl FirstTime {
         }
     }
 
-    /// The microsecond at which the first scan came.
-    pub(crate) fn micros<R: Wait>(&self, rt: &R) -> Option<u64> {
-        let first = *self.0.lock(rt);
-        Some(first? / 1_000)
+    /// What is known now.
+    pub(crate) fn known<R: Wait>(&self, rt: &R) -> Option<u64> {
+        *self.0.lock(rt)
     }
 }
 
@@ -58,14 +54,17 @@ pub(crate) struct BusLines<'a, I, R> {
     is_told: bool,
 }
 
-/// What is recorded of a capture by the set-up, and when its first scan came once it did. A refusal is
-/// printed, and the error is the exit status.
+/// What is recorded of a capture by the set-up, and when its first scan came, once it did; neither if the
+/// input is no capture. A refusal is printed, and the error is the exit status.
 pub(crate) fn bus_of<R: Eprint + AllocGlobal>(
     rt: &R,
     asked: &Asked<'_>,
     inputs: &Layout,
     setup: &[u8],
-) -> Result<(Bus, FirstTime), u8> {
+) -> Result<(Option<Bus>, Option<FirstTime>), u8> {
+    if !asked.is_capture {
+        return Ok((None, None));
+    }
     let plan = match plan_of(rt.alloc(), inputs, setup) {
         Ok(plan) => plan,
         Err(refusal) => return Err(complain(rt, asked.setup, refusal)),
@@ -74,7 +73,7 @@ pub(crate) fn bus_of<R: Eprint + AllocGlobal>(
         return Err(out_of_memory(rt));
     };
     match first.other() {
-        Ok(other) => Ok((Bus { plan, first }, other)),
+        Ok(other) => Ok((Some(Bus { plan, first }), Some(other))),
         Err(_) => Err(out_of_memory(rt)),
     }
 }
@@ -103,23 +102,12 @@ pub(crate) fn bus_lines<'a, I: Read + Drop, R: Eprint + AllocGlobal>(
 impl<I: Read + Drop, R: Eprint + AllocGlobal + Wait> Read for BusLines<'_, I, R> {
     fn read(&mut self, buf: &mut [u8]) -> io::Result<usize> {
         let given = self.lines.read(buf);
-        if !self.is_told && let Some(time) = self.lines.first_time() {
+        if !self.is_told
+            && let Some(time) = self.lines.first_time()
+        {
             *self.first.0.lock(self.rt) = Some(time);
             self.is_told = true;
         }
         given
     }
-}
-
-/// The reading of a clock that dates scan 0 by this microsecond and those after it by the rate. It counts
-/// the scans of a billion seconds, so that the machine's clock is not asked before these came: it says
-/// nothing of a stored capture. What the lines tell counts as ever.
-pub(crate) fn reading_at(micros: u64, rate: u32) -> Option<Reading>
-{
-    let wall = micros.checked_add(1_000_000_000_000_000)?;
-    Some(Reading {
-        scans: u64::from(rate) * 1_000_000_000 + 1,
-        wall,
-        mono: 0,
-    })
 }

@@ -4,6 +4,7 @@
 mod amounts;
 mod capture;
 mod check;
+mod dating;
 mod disk;
 mod event_file;
 mod event_lines;

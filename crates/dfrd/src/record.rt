@@ -2,8 +2,9 @@
 
 ghost use Rattle.std.specs.Prelude.{◌<◌, IfSome};
 
-use crate::capture::{Bus, FirstTime, bus_of, reading_at};
+use crate::capture::{Bus, FirstTime, bus_of};
 use crate::check::{frame_of, need_of, print_judged};
+use crate::dating::date;
 use crate::health_file::version;
 use crate::memory::{MemoryFault, affordable, machine_bytes};
 use crate::outcome::{complain, out_of_memory, reason_of};
@@ -16,8 +17,7 @@ use dfr_folder::Keep;
 use dfr_health::put_escaped;
 use dfr_setup::{Prepared, prepared_of};
 use dfr_station::{
-    Control, Event, Headers, Input, Printer, Run, Station, Store, finish_station, now, read_first,
-    run_station,
+    Control, Headers, Input, Printer, Run, Station, Store, finish_station, read_first, run_station,
 };
 use std::alloc::Global;
 use std::fs;
@@ -47,7 +47,7 @@ pub(crate) struct Plan {
     /// What is recorded of a capture, if the input is one.
     pub(crate) bus: Option<Bus>,
     /// When the first scan of a capture came, once it did.
-    first: Option<FirstTime>,
+    pub(crate) first: Option<FirstTime>,
     ghost sized: { 0 < frame },
 }
 
@@ -71,16 +71,6 @@ impl Plan {
             Input::Frames(_) => (true, self.frame),
             Input::Counted(_) => (true, 1),
             Input::Lines => (false, self.frame),
-        }
-    }
-}
-
-impl Plan {
-    /// The microsecond of the first scan, if the input is a stored capture: one that waits.
-    fn stored_at<R: Wait>(&self, rt: &R, waits: bool) -> Option<u64> {
-        match &self.first {
-            Some(first) if waits => first.micros(rt),
-            _ => None,
         }
     }
 }
@@ -143,13 +133,8 @@ pub(crate) fn plan_of<R: Files<File = File> + Print + Eprint + AllocGlobal>(
             if judged.is_err() {
                 return None;
             }
-            let (bus, first) = if asked.is_capture {
-                let Ok((bus, first)) = bus_of(rt, asked, &prepared.inputs, &setup) else {
-                    return None;
-                };
-                (Some(bus), Some(first))
-            } else {
-                (None, None)
+            let Ok((bus, first)) = bus_of(rt, asked, &prepared.inputs, &setup) else {
+                return None;
             };
             let frame = frame_of(&prepared.inputs);
             let rate = prepared.inputs.rate();
@@ -267,19 +252,7 @@ pub(crate) fn record<
         return out_of_memory(rt);
     };
     let waits = waits(rt, asked);
-    let micros = plan.stored_at(rt, waits);
-    let start = match (asked.start, micros) {
-        (Some(start), _) => start,
-        (None, Some(micros)) => i64::try_from(micros).unwrap_or(0),
-        (None, None) => first.start(plan.rate),
-    };
-    if !asked.has_dates(waits) {
-        first.clocks = None;
-    } else if let Some(micros) = micros {
-        first.clocks = reading_at(micros, plan.rate);
-    } else if !first.is_followed() && !first.is_empty() {
-        printer.print(now(rt), Event::Undated);
-    }
+    let start = date(rt, asked, plan, waits, &mut first, printer);
     match prepared_of(rt.alloc(), &plan.setup, start) {
         Ok(prepared) => {
             let Ok(headers) = headers_of(rt, asked, &prepared) else {

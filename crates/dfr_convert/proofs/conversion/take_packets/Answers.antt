@@ -10,7 +10,7 @@ pub loop-at-preserved : goal.loop-at-preserved
 loop-at-preserved g c =
     let new = c.take_packet.new in (
       takes_on (kept c.args.pieces.now c.args.recorder.now) (kept c.loop-at.pieces c.loop-at.recorder) (kept new.pieces new.recorder)
-      c.args.feed.now c.loop-at.feed new.feed c.loop-at.invariant.0 c.in-Ok.ensures.takes,
+          c.args.feed.now c.loop-at.feed new.feed c.loop-at.invariant.0 c.in-Ok.ensures.takes,
       λ first is. c.in-Ok.ensures.first first (c.loop-at.invariant.1 first is),
     )
 
