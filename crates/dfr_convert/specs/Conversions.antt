@@ -100,6 +100,11 @@ noted (Some first) lines time = Some first
 noted None [] time = None
 noted None (b ∷ lines) time = Some time
 
+-- after a packet: if memory ran out or its time doesn't fit, as before
+abbrev pub NotedAfter : Result (Unit {0}) Stop → packet.Packet → (lines : List ℕ) → (old new : Option ℕ) → Type 0
+NotedAfter (Ok _) p lines old new = new ≡ noted old lines (p.seconds * 1_000_000_000 + p.nanoseconds)
+NotedAfter (Err _) p lines old new = new ≡ old
+
 -- what is known stays so
 abbrev pub StaysKnown : (old new : Option ℕ) → Type 0
 StaysKnown old new = (first : ℕ) → old ≡ Some first → new ≡ Some first

@@ -84,20 +84,19 @@ fn take_packet<A: Allocator + Copy>(
     ensures takes { spec.TakesUpTo result (spec.kept pieces.old recorder.old) feed.old (spec.kept pieces.new recorder.new) feed.new }
     ensures stops { spec.StopsAtError result pieces.new }
     ensures short { result ≡ Err Long → ⊥ }
-    ensures first { spec.StaysKnown first.old first.new }
+    ensures first { spec.NotedAfter result packet.now feed.new.lines first.old first.new }
 {
     let Some(time) = nanosecond_of(packet) else {
         return Err(Stop::Time);
     };
     let content = packet.content;
     match recorder.take_in(&pieces.left()[content.from..content.to], time, feed) {
-        Ok(()) => {
-            *first = noted(*first, &feed.lines, time);
-            pieces.pass(content.to);
-            Ok(())
-        }
-        Err(_) => Err(Stop::Memory),
+        Ok(()) => {}
+        Err(_) => return Err(Stop::Memory),
     }
+    *first = noted(*first, &feed.lines, time);
+    pieces.pass(content.to);
+    Ok(())
 }
 
 /// Takes in the packets that are whole, up to the first fault.

@@ -1,5 +1,6 @@
-use Rattle.std.proofs.Common.{Err}
+use Rattle.std.proofs.Common.{◌∙◌, Ok, Err}
 use Rattle.dfr_convert.specs.Conversions.{kept}
+use Rattle.dfr_convert.proofs.Known.{known_after}
 use Rattle.dfr_convert.proofs.Taken.{takes_none, takes_on, up_to_on}
 use Rattle.dfr_convert.proofs.conversion.take_packets.Goals as goal
 
@@ -11,7 +12,7 @@ loop-at-preserved g c =
     let new = c.take_packet.new in (
       takes_on (kept c.args.pieces.now c.args.recorder.now) (kept c.loop-at.pieces c.loop-at.recorder) (kept new.pieces new.recorder)
           c.args.feed.now c.loop-at.feed new.feed c.loop-at.invariant.0 c.in-Ok.ensures.takes,
-      λ first is. c.in-Ok.ensures.first first (c.loop-at.invariant.1 first is),
+      λ first is. known_after (Ok tt) c.in-Packet.packet new.feed.lines c.loop-at.first new.first c.in-Ok.ensures.first first (c.loop-at.invariant.1 first is),
     )
 
 pub returns-in-Err-clause-takes : goal.returns-in-Err-clause-takes
@@ -24,4 +25,4 @@ pub returns-in-Err-clause-short : goal.returns-in-Err-clause-short
 returns-in-Err-clause-short g c = c.in-Err.ensures.short
 
 pub returns-in-Err-clause-first : goal.returns-in-Err-clause-first
-returns-in-Err-clause-first g c first is = c.in-Err.ensures.first first (c.loop-at.invariant.1 first is)
+returns-in-Err-clause-first g c first is = c.in-Err.ensures.first ∙ c.loop-at.invariant.1 first is
