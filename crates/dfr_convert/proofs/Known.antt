@@ -1,5 +1,5 @@
 -- What is known of the first lines stays so.
-use Rattle.std.proofs.Common.{◌≡◌, ◌∙◌, ℕ, ◌+◌, ◌*◌, List, Option, Some, None, Result, Ok, Err, refl, ap}
+use Rattle.std.proofs.Common.{◌∙◌, ℕ, ◌+◌, ◌*◌, List, Option, Result, Ok, Err, ap}
 use Rattle.dfr_bus.specs.declared.capture.Packet as packet
 use Rattle.dfr_convert.specs.declared.conversion.Stop.{Stop}
 use Rattle.dfr_convert.specs.Conversions.{noted, NotedAfter, StaysKnown}
