@@ -1,9 +1,10 @@
-# captures that are none, of another link, in the form pcapng, damaged, and cut short; set-ups without a plan; words
+# captures that are empty or none, of another link, in the form pcapng, damaged, and cut short; set-ups without a plan; words
 bay=../crates/dfrbus/data/bay.setup
 work=$(mktemp -d)
 trap 'rm -rf "$work"' EXIT
 head_of() { printf '\xd4\xc3\xb2\xa1\x02\0\x04\0\0\0\0\0\0\0\0\0\0\0\x04\0\x01\0\0\0'; }
 read_by() { "$dfrbus" "$1" 2>&1; echo "$?"; }
+printf '' | read_by $bay
 printf 'scan 1,2,3/\nscan 4,5,6/\n' | read_by $bay
 printf '\x0a\x0d\x0d\x0a\x1c\0\0\0M<+\x1a\x01\0\0\0\0\0\0\0\0\0\0\0' | read_by $bay
 { head_of | head -c 20; printf '\x71\0\0\0'; } | read_by $bay

@@ -93,3 +93,18 @@ abbrev pub TakesIn : (piece : List ℕ) → Result (Unit {0}) Stop → (old : Ke
 TakesIn piece (Err Memory) old before new after = Unit {0}
 TakesIn piece (Err Long) old before new after = (new ≡ old) × (after ≡ before)
 TakesIn piece r old before new after = TakesPiece piece old before new after
+
+-- when the frame came that gave the first lines, after a frame that came at `time`: known is known
+abbrev pub noted : (first : Option ℕ) (lines : List ℕ) (time : ℕ) → Option ℕ
+noted (Some first) lines time = Some first
+noted None [] time = None
+noted None (b ∷ lines) time = Some time
+
+-- after a packet: if memory ran out or its time doesn't fit, as before
+abbrev pub NotedAfter : Result (Unit {0}) Stop → packet.Packet → (lines : List ℕ) → (old new : Option ℕ) → Type 0
+NotedAfter (Ok _) p lines old new = new ≡ noted old lines (p.seconds * 1_000_000_000 + p.nanoseconds)
+NotedAfter (Err _) p lines old new = new ≡ old
+
+-- what is known stays so
+abbrev pub StaysKnown : (old new : Option ℕ) → Type 0
+StaysKnown old new = (first : ℕ) → old ≡ Some first → new ≡ Some first

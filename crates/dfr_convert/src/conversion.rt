@@ -20,7 +20,7 @@ pub enum Stop {
     #[error("out of memory")]
     Memory,
     /// The bytes from this one on are no packet.
-    #[error("the capture is damaged: byte {0}: {1}")]
+    #[error("the capture is damaged at byte {0}: {1}")]
     Damaged(u64, Wrong),
     /// A packet's time doesn't fit 64 bits.
     #[error("the capture is damaged: a packet came after the year 2554")]
@@ -57,12 +57,25 @@ impl<A: Allocator> Model for Conversion<A> {
     ghost view = { λ c. record { pieces = c.pieces; recorder = c.recorder } };
 }
 
+/// When the frame came that gave the first lines: if that isn't known and there are lines, it is this
+/// one, which came at `time`.
+fn noted(first: Option<u64>, lines: &[u8], time: u64) -> Option<u64>
+    ensures { result ≡ spec.noted first lines.now time }
+{
+    match first {
+        Some(first) => Some(first),
+        None if lines.is_empty() => None,
+        None => Some(time),
+    }
+}
+
 /// Takes in the packet at the front, and passes it.
 fn take_packet<A: Allocator + Copy>(
     pieces: &mut Pieces<A>,
     recorder: &mut Recorder<A>,
     packet: &Packet,
     feed: &mut Feed<A>,
+    first: &mut Option<u64>,
 ) -> Result<(), Stop>
     requires next { pcap.step pieces.old ≡ steps.Packet packet.now }
     requires order { packet.now.content.from ≤ packet.now.content.to }
@@ -71,18 +84,19 @@ fn take_packet<A: Allocator + Copy>(
     ensures takes { spec.TakesUpTo result (spec.kept pieces.old recorder.old) feed.old (spec.kept pieces.new recorder.new) feed.new }
     ensures stops { spec.StopsAtError result pieces.new }
     ensures short { result ≡ Err Long → ⊥ }
+    ensures first { spec.NotedAfter result packet.now feed.new.lines first.old first.new }
 {
     let Some(time) = nanosecond_of(packet) else {
         return Err(Stop::Time);
     };
     let content = packet.content;
     match recorder.take_in(&pieces.left()[content.from..content.to], time, feed) {
-        Ok(()) => {
-            pieces.pass(content.to);
-            Ok(())
-        }
-        Err(_) => Err(Stop::Memory),
+        Ok(()) => {}
+        Err(_) => return Err(Stop::Memory),
     }
+    *first = noted(*first, &feed.lines, time);
+    pieces.pass(content.to);
+    Ok(())
 }
 
 /// Takes in the packets that are whole, up to the first fault.
@@ -91,16 +105,18 @@ fn take_packets<A: Allocator + Copy>(
     pieces: &mut Pieces<A>,
     recorder: &mut Recorder<A>,
     feed: &mut Feed<A>,
+    first: &mut Option<u64>,
 ) -> Result<(), Stop>
     ensures takes { spec.TakesUpTo result (spec.kept pieces.old recorder.old) feed.old (spec.kept pieces.new recorder.new) feed.new }
     ensures stops { spec.StopsAt result pieces.new }
     ensures short { result ≡ Err Long → ⊥ }
+    ensures first { spec.StaysKnown first.old first.new }
 {
     loop {
         match pieces.step() {
             Step::Wait => return Ok(()),
             Step::Fault(at, wrong) => return Err(Stop::Damaged(at, wrong)),
-            Step::Packet(packet) => match take_packet(pieces, recorder, &packet, feed) {
+            Step::Packet(packet) => match take_packet(pieces, recorder, &packet, feed, first) {
                 Ok(()) => {}
                 Err(stop) => return Err(stop),
             },
@@ -140,14 +156,21 @@ impl<A: Allocator + Copy> Conversion<A> {
     }
 
     /// Takes in a piece: a feed grows by just what the definitions over all frames have more with the
-    /// packets that are whole with it, up to the first fault. If memory ran out, nothing is promised.
+    /// packets that are whole with it, up to the first fault. If memory ran out, nothing is promised of it.
+    /// `first` gets the nanosecond at which the frame came that gave the first lines, unless it has one.
     #[tactic(auto, using(crate::proofs::Taken::piece_taken_up_to, crate::proofs::Taken::piece_taken))]
-    pub fn take_in(&mut self, piece: &[u8], feed: &mut Feed<A>) -> Result<(), Stop>
+    pub fn take_in(
+        &mut self,
+        piece: &[u8],
+        feed: &mut Feed<A>,
+        first: &mut Option<u64>,
+    ) -> Result<(), Stop>
         ensures takes { spec.TakesIn piece.now result self.old feed.old self.new feed.new }
         ensures stops { spec.StopsAt result self.new.pieces }
+        ensures first { spec.StaysKnown first.old first.new }
     {
         match add(&mut self.pieces, piece) {
-            Ok(()) => take_packets(&mut self.pieces, &mut self.recorder, feed),
+            Ok(()) => take_packets(&mut self.pieces, &mut self.recorder, feed, first),
             Err(stop) => Err(stop),
         }
     }

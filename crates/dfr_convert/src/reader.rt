@@ -1,6 +1,7 @@
 //! The lines of a capture, as a reader.
 
 ghost use Rattle.std.specs.Prelude.{◌≡◌, ◌+◌, ◌-◌, ◌≤◌, [], length, min, take, drop};
+ghost use Rattle.dfr_convert.specs.Ends as spec;
 
 use crate::conversion::{Conversion, Stop};
 use crate::teller::{End, Teller};
@@ -11,6 +12,9 @@ use std::io::{ErrorKind, Read};
 
 /// How many bytes of a capture are read at once.
 const PIECE: usize = 65_536;
+
+/// How many bytes the head of a capture has.
+const HEAD: usize = 24;
 
 /// The lines of the capture that `input` gives. What becomes of its frames is told on standard error.
 #[derive(Drop)]
@@ -26,7 +30,12 @@ pub struct CaptureLines<'a, I, R> {
     at: usize,
     /// How the capture ended, once it did.
     end: Option<End>,
+    /// How many bytes came, up to those of a head.
+    came: usize,
+    /// The nanosecond at which the frame came that gave the first lines.
+    first: Option<u64>,
     ghost within: { at ≤ length feed.lines },
+    ghost few: { came ≤ 24 },
 }
 
 /// Nothing is handed out any more.
@@ -36,6 +45,23 @@ fn clear(feed: &mut Feed<Global>)
     feed.lines.clear();
     feed.events.clear();
     feed.missing.clear();
+}
+
+/// How a capture has ended of which so many bytes came, and maybe a first line.
+fn end_of(came: usize, is_within: bool, first: Option<u64>) -> End
+    ensures { result ≡ spec.end_of came is_within first }
+{
+    if came == 0 {
+        return End::Empty;
+    }
+    if came < HEAD {
+        return End::Headless;
+    }
+    match (is_within, first) {
+        (true, _) => End::Cut,
+        (false, None) => End::Scanless,
+        (false, Some(_)) => End::Over,
+    }
 }
 
 impl<'a, I: Read + Drop, R: Eprint + AllocGlobal> CaptureLines<'a, I, R> {
@@ -56,7 +82,16 @@ impl<'a, I: Read + Drop, R: Eprint + AllocGlobal> CaptureLines<'a, I, R> {
             feed: Feed::new(rt.alloc()),
             at: 0,
             end: None,
+            came: 0,
+            first: None,
         })
+    }
+
+    /// The nanosecond since 1970 at which the frame came that gave the first lines, by the capture.
+    pub fn first_time(&self) -> Option<u64>
+        ensures { result ≡ self.now.first }
+    {
+        self.first
     }
 
     /// The capture has ended so.
@@ -76,7 +111,7 @@ impl<'a, I: Read + Drop, R: Eprint + AllocGlobal> CaptureLines<'a, I, R> {
     /// The capture is at its end.
     fn end(&mut self) {
         let is_within = self.conversion.is_within();
-        self.finish(if is_within { End::Cut } else { End::Over });
+        self.finish(end_of(self.came, is_within, self.first));
     }
 
     /// Reads a piece, and takes it in.
@@ -87,11 +122,12 @@ impl<'a, I: Read + Drop, R: Eprint + AllocGlobal> CaptureLines<'a, I, R> {
                 Ok(())
             }
             Ok(count) => {
+                self.came = (self.came + count).min(HEAD);
                 self.at = 0;
                 clear(&mut self.feed);
                 let taken = self
                     .conversion
-                    .take_in(&self.piece[..count], &mut self.feed);
+                    .take_in(&self.piece[..count], &mut self.feed, &mut self.first);
                 self.tell(taken);
                 Ok(())
             }
@@ -122,7 +158,7 @@ impl<I: Read + Drop, R: Eprint + AllocGlobal> Read for CaptureLines<'_, I, R> {
             }
             match self.end {
                 None => self.fill()?,
-                Some(End::Over) => return Ok(0),
+                Some(End::Over | End::Scanless) => return Ok(0),
                 Some(_) => return Err(io::Error::from(ErrorKind::InvalidData)),
             }
         }

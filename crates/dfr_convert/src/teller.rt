@@ -21,6 +21,12 @@ const NO_CAPTURE: &str = "not a capture of libpcap; write it with `tcpdump -w`, 
 pub enum End {
     /// With the capture.
     Over,
+    /// With the capture, which has no scan.
+    Scanless,
+    /// There was no capture.
+    Empty,
+    /// The capture ended within its head.
+    Headless,
     /// The capture ended within a packet.
     Cut,
     /// Before its end.
@@ -150,6 +156,11 @@ impl<'a, R: Eprint> Teller<'a, R> {
         self.tell_counts("end");
         let _ = match end {
             End::Over => Ok(()),
+            End::Scanless => {
+                eprintln!(self.rt; "{name}: the capture has no scan of the streams of the set-up")
+            }
+            End::Empty => eprintln!(self.rt; "{name}: standard input is empty; expected a capture"),
+            End::Headless => eprintln!(self.rt; "{name}: the capture ends within its head"),
             End::Cut => eprintln!(self.rt; "{name}: the capture ends within a packet"),
             End::Stopped(Stop::Damaged(0, Wrong::Magic)) => {
                 eprintln!(self.rt; "{name}: {NO_CAPTURE}")

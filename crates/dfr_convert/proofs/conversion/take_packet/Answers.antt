@@ -4,7 +4,7 @@ use Rattle.dfr_convert.proofs.conversion.take_packet.Goals as goal
 pub returns-in_default-clause-takes : goal.returns-in_default-clause-takes
 returns-in_default-clause-takes g c = takes_none _ _
 
-pub returns-in-Ok-clause-takes : goal.returns-in-Ok-clause-takes
-returns-in-Ok-clause-takes g c =
+pub returns-clause-takes : goal.returns-clause-takes
+returns-clause-takes g c =
     one_packet_of c.args.pieces.now c.pass.new.self c.args.recorder.now c.take_in.new.self c.args.packet.now c.in-Some.time c.left.result.now c.args.feed.now
     c.take_in.new.feed c.requires.next c.in-Some.ensures c.left.ensures c.requires.within c.in-Ok.ensures c.pass.ensures
