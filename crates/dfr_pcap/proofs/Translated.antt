@@ -44,7 +44,7 @@ form_known came piece f known e =
 
 pub none_yet : IsSoFar [] [] (record { form = forms.Unknown; blocks = record { state = start; came = 0; passed = 0; bytes = [] } })
 unfolding form_of
-none_yet = record { form = refl; given = (refl, is_new, refl) }
+none_yet = record { form = refl; gives = (refl, is_new, refl) }
 
 pub blocks_taken : (piece : List ℕ) (p q : BlocksParts) (before after : List ℕ) → Goes (added piece p) q before after
     → TakesIn piece (parts forms.Blocks p) (parts forms.Blocks q) before after
@@ -52,7 +52,7 @@ blocks_taken piece p q before after g =
     (g.0, g.1, λ came given so.
       record {
         form = form_known came piece forms.Blocks (λ u. u) so.form;
-        given = g.2 (came ++ piece) given (is_added came given piece p so.given);
+        gives = g.2 (came ++ piece) given (is_added came given piece p so.gives);
       })
 
 pub classic_taken : (piece : List ℕ) (p : BlocksParts) (before : List ℕ) → TakesIn piece (parts forms.Classic p) (parts forms.Classic p) before (before ++ piece)
@@ -60,7 +60,7 @@ classic_taken piece p before =
     (piece, refl, λ came given so.
       record {
         form = form_known came piece forms.Classic (λ u. u) so.form;
-        given = ap (λ (x : List ℕ). x ++ piece) so.given;
+        gives = ap (λ (x : List ℕ). x ++ piece) so.gives;
       })
 
 -- ---- the piece that says the form
@@ -74,8 +74,8 @@ pub unknown_taken : (piece : List ℕ) (p : BlocksParts) (before : List ℕ) →
 unknown_taken piece p before e =
     ([], sym (append-nil before), λ came given so.
       record {
-        form = e ∙ ap (λ (x : List ℕ). form_of x) (all_left came piece p so.given.1 so.given.2);
-        given = (append-nil given ∙ so.given.0, is_added came classic_head piece p so.given.1, so.given.2);
+        form = e ∙ ap (λ (x : List ℕ). form_of x) (all_left came piece p so.gives.1 so.gives.2);
+        gives = (append-nil given ∙ so.gives.0, is_added came classic_head piece p so.gives.1, so.gives.2);
       })
 
 pub first_classic : (piece : List ℕ) (p : BlocksParts) (before : List ℕ) → forms.Classic ≡ form_of (added piece p).bytes
@@ -83,8 +83,8 @@ pub first_classic : (piece : List ℕ) (p : BlocksParts) (before : List ℕ) →
 first_classic piece p before e =
     ((added piece p).bytes, refl, λ came given so.
       record {
-        form = e ∙ ap (λ (x : List ℕ). form_of x) (all_left came piece p so.given.1 so.given.2);
-        given = ap (λ (x : List ℕ). x ++ (added piece p).bytes) so.given.0 ∙ all_left came piece p so.given.1 so.given.2;
+        form = e ∙ ap (λ (x : List ℕ). form_of x) (all_left came piece p so.gives.1 so.gives.2);
+        gives = ap (λ (x : List ℕ). x ++ (added piece p).bytes) so.gives.0 ∙ all_left came piece p so.gives.1 so.gives.2;
       })
 
 pub first_blocks : (piece : List ℕ) (p q : BlocksParts) (before after : List ℕ) → forms.Blocks ≡ form_of (added piece p).bytes
@@ -92,8 +92,8 @@ pub first_blocks : (piece : List ℕ) (p q : BlocksParts) (before after : List �
 first_blocks piece p q before after e g =
     (classic_head ++ g.0, g.1 ∙ append_assoc before classic_head g.0, λ came given so.
       record {
-        form = e ∙ ap (λ (x : List ℕ). form_of x) (all_left came piece p so.given.1 so.given.2);
-        given =
-          subst (λ (x : List ℕ). IsOf (came ++ piece) (x ++ (classic_head ++ g.0)) q) (sym so.given.0)
-          (g.2 (came ++ piece) classic_head (is_added came classic_head piece p so.given.1));
+        form = e ∙ ap (λ (x : List ℕ). form_of x) (all_left came piece p so.gives.1 so.gives.2);
+        gives =
+          subst (λ (x : List ℕ). IsOf (came ++ piece) (x ++ (classic_head ++ g.0)) q) (sym so.gives.0)
+          (g.2 (came ++ piece) classic_head (is_added came classic_head piece p so.gives.1));
       })

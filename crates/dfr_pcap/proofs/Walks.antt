@@ -80,9 +80,9 @@ step_more came more f from t was at s given h =
     ap (λ (x : List ℕ). take (needs t.place) x) d ∙ take-append-le (needs t.place) (drop from came) more whole in
     record {
       found = ap (λ (x : List ℕ). next_in t x) d ∙ next_more t.order t.interfaces t.place (drop from came) more whole ∙ h.found;
-      at = h.at;
+      to = h.to;
       state = h.state;
-      given = h.given ∙ ap (λ (x : List ℕ). was ++ classic x f.news) (sym same);
+      gives = h.gives ∙ ap (λ (x : List ℕ). was ++ classic x f.news) (sym same);
     }
 
 leads_more : (came more : List ℕ) (past : List Found) (at : ℕ) (s : State) (given : List ℕ) → Leads came past at s given → Leads (came ++ more) past at s given
@@ -118,9 +118,9 @@ is_passed came given p f h so =
         (p.passed, p.state, given, so.leads,
           record {
             found = ap (λ (x : List ℕ). next_in p.state x) (sym so.left) ∙ h;
-            at = refl;
+            to = refl;
             state = refl;
-            given = ap (λ (x : List ℕ). given ++ classic (seen p.state x) f.news) so.left;
+            gives = ap (λ (x : List ℕ). given ++ classic (seen p.state x) f.news) so.left;
           });
     }
 

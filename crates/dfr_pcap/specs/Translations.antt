@@ -33,7 +33,7 @@ IsGiven forms.Blocks came given p = IsOf came given p
 -- all these bytes came, and this was given of them
 pub record IsSoFar (came given : List ℕ) (t : TranslationParts) : Type 0 where
   pub form : t.form ≡ form_of came
-  pub given : IsGiven t.form came given t.blocks
+  pub gives : IsGiven t.form came given t.blocks
 
 -- with a piece more
 abbrev pub TakesIn : (piece : List ℕ) → (old new : TranslationParts) → (before after : List ℕ) → Type 0

@@ -60,9 +60,9 @@ seen s left = take (needs s.place) left
 -- what stands at `from` leads to `at`
 pub record IsStep (came : List ℕ) (f : Found) (from : ℕ) (t : State) (was : List ℕ) (at : ℕ) (s : State) (given : List ℕ) : Type 0 where
   pub found : next_in t (drop from came) ≡ outcomes.Pass f
-  pub at : at ≡ from + f.length
+  pub to : at ≡ from + f.length
   pub state : s ≡ after t f.place f.news
-  pub given : given ≡ was ++ classic (seen t (drop from came)) f.news
+  pub gives : given ≡ was ++ classic (seen t (drop from came)) f.news
 
 -- These stand one after the other from the front of a capture up to `at`, the last one first; so the capture of libpcap begins.
 abbrev pub Leads : (came : List ℕ) → List Found → (at : ℕ) → State → (given : List ℕ) → Type 0

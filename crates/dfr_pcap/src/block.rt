@@ -128,12 +128,12 @@ fn section(seen: &[u8]) -> Outcome
 
 /// The head of an interface, in a section with so many.
 #[tactic(auto, unfolding(crate::specs::Blocks::interface))]
-fn interface(order: Order, count: usize, length: u32, seen: &[u8]) -> Outcome
+fn interface(order: Order, count: usize, size: u32, seen: &[u8]) -> Outcome
     requires { length seen.now ≡ 12 }
-    ensures value { result ≡ spec.interface order count length seen.now }
+    ensures value { result ≡ spec.interface order count size seen.now }
     ensures sound { IsSound result 0 }
 {
-    if length < 20 {
+    if size < 20 {
         return Outcome::Fault(4, Flaw::Length);
     }
     if two_at(order, seen, 8) != 1 {
@@ -148,13 +148,13 @@ fn interface(order: Order, count: usize, length: u32, seen: &[u8]) -> Outcome
     };
     let described = Described {
         interface: plain,
-        left: length - 20,
-        length,
+        left: size - 20,
+        length: size,
     };
     pass(16, Place::Options(described), News::Nothing)
 }
 
-/// The head of a block that is no section's. Of its length so many bytes are behind its type and length.
+/// The head of a block that is no section's, in a section with so many interfaces.
 #[tactic(auto, unfolding(crate::specs::Blocks::block))]
 fn block(order: Order, count: usize, seen: &[u8]) -> Outcome
     requires { length seen.now ≡ 12 }
@@ -179,17 +179,17 @@ fn block(order: Order, count: usize, seen: &[u8]) -> Outcome
 
 /// The head of a block with a packet.
 #[tactic(auto, unfolding(crate::specs::Blocks::packet_head))]
-fn packet_head(length: u32) -> Outcome
-    ensures value { result ≡ spec.packet_head length }
+fn packet_head(size: u32) -> Outcome
+    ensures value { result ≡ spec.packet_head size }
     ensures sound { IsSound result 0 }
 {
-    if length < 32 {
+    if size < 32 {
         return Outcome::Fault(4, Flaw::Length);
     }
-    if length > 524_288 {
+    if size > 524_288 {
         return Outcome::Fault(4, Flaw::Large);
     }
-    pass(8, Place::Packet(length - 32), News::Nothing)
+    pass(8, Place::Packet(size - 32), News::Nothing)
 }
 
 /// The head of a block.
@@ -223,13 +223,13 @@ fn version(order: Order, rest: u32, seen: &[u8]) -> Outcome
 
 /// The length at the end of a block.
 #[tactic(auto, unfolding(crate::specs::Blocks::tail))]
-pub(crate) fn tail(order: Order, length: u64, news: News, seen: &[u8]) -> Outcome
+pub(crate) fn tail(order: Order, size: u64, news: News, seen: &[u8]) -> Outcome
     requires whole { length seen.now ≡ 4 }
     requires content { HasContent news 0 }
-    ensures value { result ≡ spec.tail order length news seen.now }
+    ensures value { result ≡ spec.tail order size news seen.now }
     ensures sound { IsSound result 0 }
 {
-    if u64::from(four_at(order, seen, 0)) != length {
+    if u64::from(four_at(order, seen, 0)) != size {
         return Outcome::Fault(0, Flaw::Lengths);
     }
     pass(4, Place::Head, news)
@@ -247,7 +247,7 @@ fn found_at(order: Order, interfaces: &[Interface], place: Place, seen: &[u8]) -
         Place::Version(rest) => version(order, rest, seen),
         Place::Options(described) => options(order, &described, seen),
         Place::Packet(rest) => packet(order, interfaces, rest, seen),
-        Place::Tail(length) => tail(order, length, News::Nothing, seen),
+        Place::Tail(size) => tail(order, size, News::Nothing, seen),
     }
 }
 

@@ -1,6 +1,6 @@
 //! A capture in the form pcapng that comes in pieces.
 
-ghost use Rattle.std.specs.Prelude.{◌≡◌, ◌+◌, ◌-◌, ◌≤◌, ◌<◌, ◌^◌, drop, take, length, OnOk};
+ghost use Rattle.std.specs.Prelude.{◌≡◌, ◌+◌, ◌-◌, ◌≤◌, ◌<◌, ◌^◌, ◌++◌, drop, take, length, OnOk};
 ghost use Rattle.std.specs.Int.{w32, to_le_bytes};
 ghost use Rattle.dfr_pcap.specs.declared.block.Outcome.TheVariants as outcomes;
 ghost use Rattle.dfr_pcap.specs.Bounds.{HasContent, IsSound, IsInside};
@@ -113,15 +113,15 @@ fn write_packet<A: Allocator>(
     out: &mut Vec<u8, A>,
     moment: Moment,
     kept: u32,
-    length: u32,
+    all: u32,
     content: &[u8],
 ) -> Result<(), AllocError>
-    ensures { OnOk result (out.new.items ≡ out.old.items ++ spec.packet_bytes moment kept length content.now) }
+    ensures { OnOk result (out.new.items ≡ out.old.items ++ spec.packet_bytes moment kept all content.now) }
 {
     write_4(out, moment.seconds)?;
     write_4(out, moment.nanoseconds)?;
     write_4(out, kept)?;
-    write_4(out, length)?;
+    write_4(out, all)?;
     out.extend_from_slice(content)
 }
 
@@ -135,8 +135,8 @@ fn write_news<A: Allocator>(
     ensures { OnOk result (out.new.items ≡ out.old.items ++ spec.classic seen.now news) }
 {
     match news {
-        News::Packet(moment, kept, length) => {
-            write_packet(out, moment, kept, length, &seen[20..20 + kept as usize])
+        News::Packet(moment, kept, all) => {
+            write_packet(out, moment, kept, all, &seen[20..20 + kept as usize])
         }
         _ => Ok(()),
     }

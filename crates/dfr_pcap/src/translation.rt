@@ -61,7 +61,7 @@ fn begin<A: Allocator>(form: Form, came: &[u8], out: &mut Vec<u8, A>) -> Result<
 
 impl<A: Allocator + Copy> Translation<A> {
     ghost use Rattle.std.specs.Prelude.{◌≡◌, [], length};
-    ghost use Rattle.dfr_pcap.specs.Walks as walks;
+    ghost use Rattle.dfr_pcap.specs.declared.translation.Form.TheVariants as forms;
     ghost use Rattle.dfr_pcap.specs.Translations as spec;
 
     /// Before the first piece.
@@ -77,7 +77,7 @@ impl<A: Allocator + Copy> Translation<A> {
 
     /// Takes in the first pieces, up to the one that says the form.
     fn take_first(&mut self, piece: &[u8], out: &mut Vec<u8, A>) -> Result<(), TranslateFault>
-        requires { self.old.form ≡ spec.forms.Unknown }
+        requires { self.old.form ≡ forms.Unknown }
         ensures takes { spec.TakesUpTo piece.now result self.old self.new out.old.items out.new.items }
         ensures stops { spec.StopsAt result self.new }
     {
