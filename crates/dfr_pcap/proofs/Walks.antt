@@ -138,3 +138,19 @@ goes_on a b c x y z g h =
 pub goes_past : (p : BlocksParts) (f : Found) (out : List ℕ) → next_in p.state p.bytes ≡ outcomes.Pass f
     → Goes p (passed f p) out (out ++ classic (seen p.state p.bytes) f.news)
 goes_past p f out h = (classic (seen p.state p.bytes) f.news, refl, λ came given so. is_passed came given p f h so)
+
+-- one part more
+pub goes_by : (a b c : BlocksParts) (x y z : List ℕ) (f : Found) → Goes a b x y → outcomes.Pass f ≡ next_in b.state b.bytes → c ≡ passed f b
+    → z ≡ y ++ classic (seen b.state b.bytes) f.news → Goes a c x z
+goes_by a b c x y z f g h e out =
+    let one = goes_past b f y (sym h) in
+    let two : Goes b c y z = (one.0, out, λ came given so. subst (λ (p : BlocksParts). IsOf came (given ++ one.0) p) (sym e) (one.2 came given so)) in
+    goes_on a b c x y z g two
+
+-- and fewer bytes left
+pub leaves_fewer : (b c : BlocksParts) (f : Found) → c ≡ passed f b → 4 ≤ f.length → needs b.state.place ≤ length b.bytes → length c.bytes < length b.bytes
+leaves_fewer b c f e some whole =
+    let need : 1 ≤ needs b.state.place = needs_some b.state.place in
+    let n : length (drop f.length b.bytes) ≡ length b.bytes - f.length = length-drop f.length b.bytes in
+    let m : length c.bytes ≡ length (drop f.length b.bytes) = ap (λ (p : BlocksParts). length p.bytes) e in
+    omega (arith, need, n, m, some, whole)

@@ -12,7 +12,7 @@ use crate::packet::packet;
 use dfr_bus::Order;
 
 /// An interface as far as its block was read.
-#[derive(Clone, Copy, Debug, PartialEq, Eq)]
+#[derive(Clone, Copy)]
 pub struct Described {
     /// What is known of it.
     pub interface: Interface,
@@ -23,7 +23,7 @@ pub struct Described {
 }
 
 /// What stands at a place of a capture.
-#[derive(Clone, Copy, Debug, PartialEq, Eq)]
+#[derive(Clone, Copy)]
 pub enum Place {
     /// The head of a block.
     Head,
@@ -38,7 +38,7 @@ pub enum Place {
 }
 
 /// What a part of a capture says.
-#[derive(Clone, Copy, Debug, PartialEq, Eq)]
+#[derive(Clone, Copy)]
 pub enum News {
     /// Nothing of packets.
     Nothing,
@@ -51,7 +51,7 @@ pub enum News {
 }
 
 /// What stands at a place.
-#[derive(Clone, Copy, Debug, PartialEq, Eq)]
+#[derive(Clone, Copy)]
 pub struct Found {
     /// How many bytes of it are passed.
     pub length: u64,
@@ -62,7 +62,7 @@ pub struct Found {
 }
 
 /// What comes next.
-#[derive(Clone, Copy, Debug, PartialEq, Eq)]
+#[derive(Clone, Copy)]
 pub enum Outcome {
     /// What came doesn't reach to the end of what stands here.
     Wait,

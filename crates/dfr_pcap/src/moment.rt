@@ -9,7 +9,7 @@ use crate::flaw::Flaw;
 const SECOND: u128 = 1_000_000_000;
 
 /// What an interface says of the times of its packets.
-#[derive(Clone, Copy, Debug, PartialEq, Eq)]
+#[derive(Clone, Copy)]
 pub struct Interface {
     /// How many ticks a second has: 10 to this power; from 128 on, 2 to this power less 128.
     pub resolution: u8,
@@ -18,7 +18,7 @@ pub struct Interface {
 }
 
 /// When a packet came.
-#[derive(Clone, Copy, Debug, PartialEq, Eq)]
+#[derive(Clone, Copy)]
 pub struct Moment {
     /// Seconds since 1970.
     pub seconds: u32,
