@@ -7,3 +7,4 @@ pub mod Moments
 pub mod Bounds
 pub mod Walks
 pub mod Translated
+pub mod Written

@@ -1,17 +1,16 @@
 -- Pieces of a capture in either form.
-use Rattle.std.proofs.Common.{◌≡◌, ◌∙◌, ℕ, ◌+◌, ◌-◌, ◌≤◌, ◌<◌, true, false, List, [], ◌∷◌, ◌++◌, length, drop, refl, sym, ap, subst, append_assoc, append-nil, inl, inr, arith}
+use Rattle.std.proofs.Common.{◌≡◌, ◌∙◌, ℕ, ◌+◌, ◌≤◌, true, false, List, [], ◌++◌, length, drop, Result, Ok, Err, refl, sym, ap, subst, append_assoc, append-nil, inl, inr, arith}
 use Rattle.std.specs.Prelude.{nat_lt, ◌==◌}
 use Rattle.std.proofs.lemmas.Bool.{cases_Bool, ltb-false, le-ltb}
 use Rattle.std.proofs.lemmas.List.{length-append, get_or_append_left}
 use Rattle.dfr_bus.specs.Bytes.{byte, big_4}
+use Rattle.dfr_pcap.specs.declared.blocks.TranslateFault.{TranslateFault}
+use Rattle.dfr_pcap.specs.declared.blocks.TranslateFault.TheVariants as faults
 use Rattle.dfr_pcap.specs.declared.translation.Form.{Form}
 use Rattle.dfr_pcap.specs.declared.translation.Form.TheVariants as forms
-use Rattle.dfr_pcap.specs.Walks.{start, BlocksParts, IsOf, Goes, classic_head, added}
-use Rattle.dfr_pcap.specs.Translations.{TranslationParts, form_of, beginning, IsSoFar, TakesIn}
+use Rattle.dfr_pcap.specs.Walks.{start, BlocksParts, IsOf, Goes, GoesUpTo, Adds, classic_head, added}
+use Rattle.dfr_pcap.specs.Translations.{parts, form_of, IsSoFar, TakesIn, TakesUpTo, StopsAt, PassesOn, BeginsUpTo}
 use Rattle.dfr_pcap.proofs.Walks.{is_new, is_added}
-
-abbrev parts : Form → BlocksParts → TranslationParts
-parts f p = record { form = f; blocks = p }
 
 abbrev IsUnknown : Form → Type 0
 IsUnknown forms.Unknown = Unit {0}
@@ -97,3 +96,91 @@ first_blocks piece p q before after e g =
           subst (λ (x : List ℕ). IsOf (came ++ piece) (x ++ (classic_head ++ g.0)) q) (sym so.gives.0)
           (g.2 (came ++ piece) classic_head (is_added came classic_head piece p so.gives.1));
       })
+
+-- ---- what a call answers
+
+pub refused : (piece : List ℕ) (e : TranslateFault) (f : Form) (p q : BlocksParts) (out : List ℕ) → Adds piece (Err e) p q
+    → TakesUpTo piece (Err e) (parts f p) (parts f q) out out
+refused piece faults.Memory f p q out h = tt
+refused piece (faults.Damaged at flaw) f p q out h = absurd h
+refused piece faults.Long f p q out h = (ap (λ (x : BlocksParts). parts f x) h.0, refl)
+
+pub refused_stops : (piece : List ℕ) (e : TranslateFault) (f : Form) (p q : BlocksParts) → Adds piece (Err e) p q → StopsAt (Err e) (parts f q)
+refused_stops piece (faults.Damaged at flaw) f p q h = absurd h
+refused_stops piece faults.Memory forms.Unknown p q h = tt
+refused_stops piece faults.Memory forms.Classic p q h = tt
+refused_stops piece faults.Memory forms.Blocks p q h = tt
+refused_stops piece faults.Long forms.Unknown p q h = tt
+refused_stops piece faults.Long forms.Classic p q h = tt
+refused_stops piece faults.Long forms.Blocks p q h = tt
+
+blocks_up_to : (piece : List ℕ) (r : Result (Unit {0}) TranslateFault) (p q : BlocksParts) (before after : List ℕ) → (r ≡ Err faults.Long → ⊥)
+    → GoesUpTo r (added piece p) q before after → TakesUpTo piece r (parts forms.Blocks p) (parts forms.Blocks q) before after
+blocks_up_to piece (Ok u) p q before after short g = blocks_taken piece p q before after g
+blocks_up_to piece (Err faults.Memory) p q before after short g = tt
+blocks_up_to piece (Err (faults.Damaged at flaw)) p q before after short g = blocks_taken piece p q before after g
+blocks_up_to piece (Err faults.Long) p q before after short g = absurd (short refl)
+
+pub goes_taken : (piece : List ℕ) (r : Result (Unit {0}) TranslateFault) (p m q : BlocksParts) (before after : List ℕ) → m ≡ added piece p
+    → (r ≡ Err faults.Long → ⊥) → GoesUpTo r m q before after → TakesUpTo piece r (parts forms.Blocks p) (parts forms.Blocks q) before after
+goes_taken piece r p m q before after e short g =
+    blocks_up_to piece r p q before after short (subst (λ (x : BlocksParts). GoesUpTo r x q before after) e g)
+
+first_up_to : (piece : List ℕ) (r : Result (Unit {0}) TranslateFault) (p q : BlocksParts) (before mid after : List ℕ) → (r ≡ Err faults.Long → ⊥)
+    → forms.Blocks ≡ form_of (added piece p).bytes → mid ≡ before ++ classic_head → GoesUpTo r (added piece p) q mid after
+    → TakesUpTo piece r (parts forms.Unknown p) (parts forms.Blocks q) before after
+first_up_to piece (Ok u) p q before mid after short e is g =
+    first_blocks piece p q before after e (subst (λ (x : List ℕ). Goes (added piece p) q x after) is g)
+first_up_to piece (Err faults.Memory) p q before mid after short e is g = tt
+first_up_to piece (Err (faults.Damaged at flaw)) p q before mid after short e is g =
+    first_blocks piece p q before after e (subst (λ (x : List ℕ). Goes (added piece p) q x after) is g)
+first_up_to piece (Err faults.Long) p q before mid after short e is g = absurd (short refl)
+
+pub blocks_begin : (r : Result (Unit {0}) TranslateFault) (m q : BlocksParts) (before mid after : List ℕ) → (r ≡ Err faults.Long → ⊥)
+    → forms.Blocks ≡ form_of m.bytes → mid ≡ before ++ classic_head → GoesUpTo r m q mid after → BeginsUpTo r forms.Blocks m q before after
+blocks_begin r m q before mid after short e is g piece p same =
+    first_up_to piece r p q before mid after short (e ∙ ap (λ (x : BlocksParts). form_of x.bytes) same) is
+    (subst (λ (x : BlocksParts). GoesUpTo r x q mid after) same g)
+
+pub classic_begin : (r : Result (Unit {0}) TranslateFault) (m : BlocksParts) (before after : List ℕ) → forms.Classic ≡ form_of m.bytes
+    → PassesOn r m.bytes before after → BeginsUpTo r forms.Classic m m before after
+classic_begin (Ok u) m before after e h piece p same =
+    let known : forms.Classic ≡ form_of (added piece p).bytes = e ∙ ap (λ (x : BlocksParts). form_of x.bytes) same in
+    let is : after ≡ before ++ (added piece p).bytes = h ∙ ap (λ (x : BlocksParts). before ++ x.bytes) same in
+    let t = first_classic piece p before known in
+    (t.0, is, λ came given so. subst (λ (x : BlocksParts). IsSoFar (came ++ piece) (given ++ t.0) (parts forms.Classic x)) (sym same) (t.2 came given so))
+classic_begin (Err faults.Memory) m before after e h piece p same = tt
+classic_begin (Err (faults.Damaged at flaw)) m before after e h piece p same = absurd h
+classic_begin (Err faults.Long) m before after e h piece p same = absurd h
+
+pub unknown_begin : (m : BlocksParts) (out : List ℕ) → forms.Unknown ≡ form_of m.bytes → BeginsUpTo (Ok tt) forms.Unknown m m out out
+unknown_begin m out e piece p same =
+    let t = unknown_taken piece p out (e ∙ ap (λ (x : BlocksParts). form_of x.bytes) same) in
+    (t.0, t.1, λ came given so. subst (λ (x : BlocksParts). IsSoFar (came ++ piece) (given ++ t.0) (parts forms.Unknown x)) (sym same) (t.2 came given so))
+
+pub passed_stops : (r : Result (Unit {0}) TranslateFault) (m : BlocksParts) (bytes before after : List ℕ) → PassesOn r bytes before after
+    → StopsAt r (parts forms.Classic m)
+passed_stops (Ok u) m bytes before after h = tt
+passed_stops (Err faults.Memory) m bytes before after h = tt
+passed_stops (Err (faults.Damaged at flaw)) m bytes before after h = absurd h
+passed_stops (Err faults.Long) m bytes before after h = absurd h
+
+-- no head of a capture was written
+pub unwritten : (e : TranslateFault) (f : Form) (m : BlocksParts) (bytes before after : List ℕ) → PassesOn (Err e) bytes before after
+    → BeginsUpTo (Err e) f m m before after
+unwritten faults.Memory f m bytes before after h piece p same = tt
+unwritten (faults.Damaged at flaw) f m bytes before after h piece p same = absurd h
+unwritten faults.Long f m bytes before after h piece p same = absurd h
+
+pub unwritten_stops : (e : TranslateFault) (m : BlocksParts) (bytes before after : List ℕ) → PassesOn (Err e) bytes before after
+    → StopsAt (Err e) (parts forms.Blocks m)
+unwritten_stops faults.Memory m bytes before after h = tt
+unwritten_stops (faults.Damaged at flaw) m bytes before after h = absurd h
+unwritten_stops faults.Long m bytes before after h = absurd h
+
+pub classic_up_to : (piece : List ℕ) (r : Result (Unit {0}) TranslateFault) (p : BlocksParts) (before after : List ℕ) → PassesOn r piece before after
+    → TakesUpTo piece r (parts forms.Classic p) (parts forms.Classic p) before after
+classic_up_to piece (Ok u) p before after h = let t = classic_taken piece p before in (t.0, h, t.2)
+classic_up_to piece (Err faults.Memory) p before after h = tt
+classic_up_to piece (Err (faults.Damaged at flaw)) p before after h = absurd h
+classic_up_to piece (Err faults.Long) p before after h = absurd h

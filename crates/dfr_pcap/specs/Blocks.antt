@@ -69,6 +69,9 @@ packet_head n =
     else if nat_lt 524288 n then outcomes.Fault 4 flaws.Large
     else pass 8 (places.Packet (n - 32)) news.Nothing
 
+abbrev pub other : (length : ℕ) → outcome.Outcome
+other n = pass (n - 4) (places.Tail n) news.Nothing
+
 -- 1 describes an interface, 6 is a packet; 3 is one without a time, 2 the obsolete form. All others are passed.
 unfoldable pub block : Order → (count kind length : ℕ) → (b : List ℕ) → outcome.Outcome
 block o count kind n b =
@@ -77,7 +80,7 @@ block o count kind n b =
     else if kind == 2 then outcomes.Fault 0 flaws.Obsolete
     else if kind == 3 then outcomes.Fault 0 flaws.Untimed
     else if kind == 6 then packet_head n
-    else pass (n - 4) (places.Tail n) news.Nothing
+    else other n
 
 -- 0A0D0D0A, the same in either order, begins a section
 unfoldable pub head : Order → (count : ℕ) → (b : List ℕ) → outcome.Outcome

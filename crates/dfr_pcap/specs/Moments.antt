@@ -5,12 +5,12 @@ use Rattle.dfr_pcap.specs.declared.flaw.Flaw.TheVariants as flaws
 use Rattle.dfr_pcap.specs.declared.moment.Interface.{Interface}
 use Rattle.dfr_pcap.specs.declared.moment.Moment.{Moment}
 
--- ticks in a second: a power of ten, or from 128 on of two
-abbrev pub power : (resolution : ℕ) → ℕ
-power r = if nat_lt r 128 then 10 ^ r else 2 ^ (r - 128)
+-- ticks in a second: a power of ten, or from 128 on of two, below 2^64
+abbrev pub fitting : ℕ → Option ℕ
+fitting n = if nat_lt n (2 ^ 64) then Some n else None
 
 abbrev pub ticks_of : (resolution : ℕ) → Option ℕ
-ticks_of r = if nat_lt (power r) (2 ^ 64) then Some (power r) else None
+ticks_of r = if nat_lt r 128 then fitting (10 ^ r) else fitting (2 ^ (r - 128))
 
 -- counted from so many seconds after 1970; from 2^63 on the seconds are less by 2^64
 unfoldable pub moved : (nanoseconds offset : ℕ) → Option ℕ

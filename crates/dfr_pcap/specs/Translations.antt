@@ -12,17 +12,15 @@ pub record TranslationParts : Type 0 where
   pub form : Form
   pub blocks : BlocksParts
 
+abbrev pub parts : Form → BlocksParts → TranslationParts
+parts f p = record { form = f; blocks = p }
+
 -- 0A0D0D0A begins the form pcapng
 unfoldable pub form_of : (came : List ℕ) → Form
 form_of came =
     if nat_lt (length came) 4 then forms.Unknown
     else if bytes.big_4 came 0 == 168627466 then forms.Blocks
     else forms.Classic
-
-abbrev pub beginning : Form → (came : List ℕ) → List ℕ
-beginning forms.Unknown came = []
-beginning forms.Classic came = came
-beginning forms.Blocks came = classic_head
 
 -- nothing before the form is known; in the form of libpcap what came; and else the packets as libpcap writes them
 abbrev pub IsGiven : Form → (came given : List ℕ) → BlocksParts → Type 0
@@ -64,3 +62,14 @@ is_in forms.Blocks p = walks.is_within p
 
 abbrev pub is_within : TranslationParts → Bool
 is_within t = is_in t.form t.blocks
+
+-- bytes are written as they are, if there is memory
+abbrev pub PassesOn : Result (Unit {0}) TranslateFault → (bytes before after : List ℕ) → Type 0
+PassesOn (Ok _) bytes before after = after ≡ before ++ bytes
+PassesOn (Err faults.Memory) bytes before after = Unit {0}
+PassesOn (Err e) bytes before after = ⊥
+
+-- these pieces have this form with the last one; whichever that was, it was taken in
+abbrev pub BeginsUpTo : Result (Unit {0}) TranslateFault → Form → (old new : BlocksParts) → (before after : List ℕ) → Type 0
+BeginsUpTo r f old new before after =
+    (piece : List ℕ) (p : BlocksParts) → old ≡ walks.added piece p → TakesUpTo piece r (parts forms.Unknown p) (parts f new) before after

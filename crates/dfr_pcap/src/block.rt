@@ -1,6 +1,6 @@
 //! The blocks of a capture in the form pcapng, part by part.
 
-ghost use Rattle.std.specs.Prelude.{◌≡◌, ◌+◌, ◌<◌, ◌≤◌, ◌^◌, length};
+ghost use Rattle.std.specs.Prelude.{◌≡◌, ◌+◌, ◌<◌, ◌≤◌, ◌^◌, length, IsTrue};
 ghost use Rattle.dfr_pcap.specs.Blocks as spec;
 ghost use Rattle.dfr_pcap.specs.Bounds.{IsSound, HasContent, IsInside};
 
@@ -101,7 +101,8 @@ fn order_of(first: u32) -> Option<Order>
 /// The length of a block, which has so many bytes at least.
 #[tactic(auto, unfolding(crate::specs::Blocks::is_length))]
 fn is_length(least: u32, length: u32) -> bool
-    ensures { result ≡ spec.is_length least length }
+    ensures value { result ≡ spec.is_length least length }
+    ensures enough { IsTrue result → least ≤ length }
 {
     length >= least && length % 4 == 0
 }
@@ -170,11 +171,18 @@ fn block(order: Order, count: usize, seen: &[u8]) -> Outcome
         2 => Outcome::Fault(0, Flaw::Obsolete),
         3 => Outcome::Fault(0, Flaw::Untimed),
         6 => packet_head(length),
-        _ => {
-            let rest = u64::from(length);
-            pass(rest - 4, Place::Tail(rest), News::Nothing)
-        }
+        _ => other(length),
     }
+}
+
+/// The head of a block that says nothing of packets.
+fn other(size: u32) -> Outcome
+    requires { 12 ≤ size }
+    ensures value { result ≡ spec.other size }
+    ensures sound { IsSound result 0 }
+{
+    let size = u64::from(size);
+    pass(size - 4, Place::Tail(size), News::Nothing)
 }
 
 /// The head of a block with a packet.

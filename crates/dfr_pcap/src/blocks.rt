@@ -107,8 +107,8 @@ fn write_4<A: Allocator>(out: &mut Vec<u8, A>, number: u32) -> Result<(), AllocE
     out.extend_from_slice(&number.to_le_bytes())
 }
 
-/// Writes a packet as libpcap does, with what was kept of it: the bytes from 20 on of its block behind
-/// the head.
+/// Writes a packet as libpcap does, with what was kept of it.
+#[tactic(auto, using(crate::proofs::Written::five))]
 fn write_packet<A: Allocator>(
     out: &mut Vec<u8, A>,
     moment: Moment,
@@ -122,7 +122,8 @@ fn write_packet<A: Allocator>(
     write_4(out, moment.nanoseconds)?;
     write_4(out, kept)?;
     write_4(out, all)?;
-    out.extend_from_slice(content)
+    out.extend_from_slice(content)?;
+    Ok(())
 }
 
 /// Writes what a part of the capture says of packets.
@@ -143,7 +144,8 @@ fn write_news<A: Allocator>(
 }
 
 impl<A: Allocator + Copy> Blocks<A> {
-    ghost use Rattle.std.specs.Prelude.{◌≡◌, ◌≤◌, ◌<◌, ◌^◌, ◌++◌, [], length, OnOk};
+    ghost use Rattle.std.specs.Prelude.{◌≡◌, ◌≤◌, ◌<◌, ◌^◌, ◌++◌, [], length, Err, OnOk};
+    ghost use Rattle.dfr_pcap.specs.declared.blocks.TranslateFault.TheVariants as faults;
     ghost use Rattle.dfr_pcap.specs.Bounds.{IsSound, IsInside};
     ghost use Rattle.dfr_pcap.specs.Blocks.{needs};
     ghost use Rattle.dfr_pcap.specs.declared.block.Outcome.TheVariants as outcomes;
@@ -253,6 +255,7 @@ impl<A: Allocator + Copy> Blocks<A> {
     pub(crate) fn go_on(&mut self, out: &mut Vec<u8, A>) -> Result<(), TranslateFault>
         ensures goes { spec.GoesUpTo result self.old self.new out.old.items out.new.items }
         ensures stops { spec.StopsAt result self.new }
+        ensures short { result ≡ Err faults.Long → ⊥ }
     {
         loop {
             match self.next() {

@@ -26,21 +26,30 @@ pub struct Moment {
     pub nanoseconds: u32,
 }
 
+/// A power, if it is below 2^64.
+#[tactic(auto, using(crate::proofs::Moments::fitting_is, crate::proofs::Moments::power_some))]
+fn power_of(base: u64, exponent: u32) -> Option<u64>
+    requires { 0 < base }
+    ensures value { result ≡ spec.fitting (base ^ exponent) }
+    ensures positive { IfSome result (λ power. 0 < power) }
+{
+    base.checked_pow(exponent)
+}
+
 /// How many ticks a second has, if that is below 2^64.
-#[tactic(auto)]
 fn ticks_of(resolution: u8) -> Option<u64>
     ensures value { result ≡ spec.ticks_of resolution }
     ensures positive { IfSome result (λ ticks. 0 < ticks) }
 {
     if resolution < 128 {
-        10u64.checked_pow(u32::from(resolution))
+        power_of(10, u32::from(resolution))
     } else {
-        2u64.checked_pow(u32::from(resolution - 128))
+        power_of(2, u32::from(resolution - 128))
     }
 }
 
 /// The whole nanoseconds of so many ticks.
-#[tactic(auto, using(crate::proofs::Moments::quotient_le))]
+#[tactic(auto, using(crate::proofs::Moments::quotient_small))]
 fn whole(stamp: u64, ticks: u64) -> u128
     requires { 0 < ticks }
     ensures value { result ≡ stamp * 1_000_000_000 / ticks }

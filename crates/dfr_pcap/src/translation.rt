@@ -1,11 +1,12 @@
 //! A capture in either form that comes in pieces, as libpcap writes it.
 
-ghost use Rattle.std.specs.Prelude.{◌≡◌, ◌++◌, OnOk};
+ghost use Rattle.std.specs.Prelude.{◌≡◌};
+ghost use Rattle.dfr_pcap.specs.declared.translation.Form.TheVariants as forms;
 ghost use Rattle.dfr_pcap.specs.Translations as spec;
 
 use crate::blocks::{Blocks, CLASSIC_HEAD, TranslateFault};
 use crate::numbers::high_first_4;
-use std::alloc::{AllocError, Allocator, Global};
+use std::alloc::{Allocator, Global};
 use std::marker::Model;
 
 /// The form of a capture.
@@ -48,14 +49,72 @@ fn form_of(came: &[u8]) -> Form
     }
 }
 
-/// Writes what a capture begins with, once its form is known.
-fn begin<A: Allocator>(form: Form, came: &[u8], out: &mut Vec<u8, A>) -> Result<(), AllocError>
-    ensures { OnOk result (out.new.items ≡ out.old.items ++ spec.beginning form came.now) }
+/// Writes bytes as they are.
+fn pass_on<A: Allocator>(out: &mut Vec<u8, A>, bytes: &[u8]) -> Result<(), TranslateFault>
+    ensures { spec.PassesOn result bytes.now out.old.items out.new.items }
+{
+    match out.extend_from_slice(bytes) {
+        Ok(()) => Ok(()),
+        Err(_) => Err(TranslateFault::Memory),
+    }
+}
+
+/// Begins a capture in the form of libpcap, or none.
+fn begin_classic<A: Allocator + Copy>(
+    blocks: &Blocks<A>,
+    out: &mut Vec<u8, A>,
+) -> Result<(), TranslateFault>
+    requires { forms.Classic ≡ spec.form_of blocks.now.bytes }
+    ensures takes { spec.BeginsUpTo result forms.Classic blocks.now blocks.now out.old.items out.new.items }
+    ensures stops { spec.StopsAt result (spec.parts forms.Classic blocks.now) }
+{
+    pass_on(out, blocks.left())
+}
+
+/// Begins a capture in the form pcapng.
+fn begin_blocks<A: Allocator + Copy>(
+    blocks: &mut Blocks<A>,
+    out: &mut Vec<u8, A>,
+) -> Result<(), TranslateFault>
+    requires { forms.Blocks ≡ spec.form_of blocks.old.bytes }
+    ensures takes { spec.BeginsUpTo result forms.Blocks blocks.old blocks.new out.old.items out.new.items }
+    ensures stops { spec.StopsAt result (spec.parts forms.Blocks blocks.new) }
+{
+    match pass_on(out, &CLASSIC_HEAD) {
+        Ok(()) => blocks.go_on(out),
+        Err(fault) => Err(fault),
+    }
+}
+
+/// Begins a capture, once its form is known.
+fn begin<A: Allocator + Copy>(
+    form: Form,
+    blocks: &mut Blocks<A>,
+    out: &mut Vec<u8, A>,
+) -> Result<(), TranslateFault>
+    requires { form ≡ spec.form_of blocks.old.bytes }
+    ensures takes { spec.BeginsUpTo result form blocks.old blocks.new out.old.items out.new.items }
+    ensures stops { spec.StopsAt result (spec.parts form blocks.new) }
 {
     match form {
         Form::Unknown => Ok(()),
-        Form::Classic => out.extend_from_slice(came),
-        Form::Blocks => out.extend_from_slice(&CLASSIC_HEAD),
+        Form::Classic => begin_classic(blocks, out),
+        Form::Blocks => begin_blocks(blocks, out),
+    }
+}
+
+/// Goes on in the form pcapng.
+fn go_on<A: Allocator + Copy>(
+    blocks: &mut Blocks<A>,
+    piece: &[u8],
+    out: &mut Vec<u8, A>,
+) -> Result<(), TranslateFault>
+    ensures takes { spec.TakesUpTo piece.now result (spec.parts forms.Blocks blocks.old) (spec.parts forms.Blocks blocks.new) out.old.items out.new.items }
+    ensures stops { spec.StopsAt result (spec.parts forms.Blocks blocks.new) }
+{
+    match blocks.add(piece) {
+        Ok(()) => blocks.go_on(out),
+        Err(fault) => Err(fault),
     }
 }
 
@@ -81,14 +140,13 @@ impl<A: Allocator + Copy> Translation<A> {
         ensures takes { spec.TakesUpTo piece.now result self.old self.new out.old.items out.new.items }
         ensures stops { spec.StopsAt result self.new }
     {
-        self.blocks.add(piece)?;
-        self.form = form_of(self.blocks.left());
-        let Ok(()) = begin(self.form, self.blocks.left(), out) else {
-            return Err(TranslateFault::Memory);
-        };
-        match self.form {
-            Form::Blocks => self.blocks.go_on(out),
-            _ => Ok(()),
+        match self.blocks.add(piece) {
+            Ok(()) => {
+                let form = form_of(self.blocks.left());
+                self.form = form;
+                begin(form, &mut self.blocks, out)
+            }
+            Err(fault) => Err(fault),
         }
     }
 
@@ -101,14 +159,8 @@ impl<A: Allocator + Copy> Translation<A> {
     {
         match self.form {
             Form::Unknown => self.take_first(piece, out),
-            Form::Classic => match out.extend_from_slice(piece) {
-                Ok(()) => Ok(()),
-                Err(_) => Err(TranslateFault::Memory),
-            },
-            Form::Blocks => {
-                self.blocks.add(piece)?;
-                self.blocks.go_on(out)
-            }
+            Form::Classic => pass_on(out, piece),
+            Form::Blocks => go_on(&mut self.blocks, piece, out),
         }
     }
 
