@@ -9,7 +9,7 @@ use Rattle.dfr_pcap.specs.declared.blocks.TranslateFault.TheVariants as faults
 use Rattle.dfr_pcap.specs.declared.translation.Form.{Form}
 use Rattle.dfr_pcap.specs.declared.translation.Form.TheVariants as forms
 use Rattle.dfr_pcap.specs.Walks.{start, BlocksParts, IsOf, Goes, GoesUpTo, Adds, classic_head, added}
-use Rattle.dfr_pcap.specs.Translations.{parts, form_of, IsSoFar, TakesIn, TakesUpTo, StopsAt, PassesOn, BeginsUpTo}
+use Rattle.dfr_pcap.specs.Translations.{TranslationParts, parts, form_of, IsSoFar, TakesIn, TakesUpTo, StopsAt, PassesOn, BeginsUpTo}
 use Rattle.dfr_pcap.proofs.Walks.{is_new, is_added}
 
 abbrev IsUnknown : Form → Type 0
@@ -29,10 +29,10 @@ form_more came piece known =
           let longer : nat_lt (length (came ++ piece)) 4 ≡ false = le-ltb (length (came ++ piece)) 4 (omega (arith, n, le)) in
           let first : big_4 (came ++ piece) 0 ≡ big_4 came 0 =
           rw (
-            get_or_append_left came piece {k = 0} 0 (omega (arith, le)),
-            get_or_append_left came piece {k = 1} 0 (omega (arith, le)),
-            get_or_append_left came piece {k = 2} 0 (omega (arith, le)),
-            get_or_append_left came piece {k = 3} 0 (omega (arith, le)),
+            get_or_append_left came piece 0 0 (omega (arith, le)),
+            get_or_append_left came piece 0 1 (omega (arith, le)),
+            get_or_append_left came piece 0 2 (omega (arith, le)),
+            get_or_append_left came piece 0 3 (omega (arith, le)),
           ) refl in
           rw (long, longer, first) refl
     ]
@@ -144,6 +144,7 @@ blocks_begin r m q before mid after short e is g piece p same =
 
 pub classic_begin : (r : Result (Unit {0}) TranslateFault) (m : BlocksParts) (before after : List ℕ) → forms.Classic ≡ form_of m.bytes
     → PassesOn r m.bytes before after → BeginsUpTo r forms.Classic m m before after
+unfolding first_classic
 classic_begin (Ok u) m before after e h piece p same =
     let known : forms.Classic ≡ form_of (added piece p).bytes = e ∙ ap (λ (x : BlocksParts). form_of x.bytes) same in
     let is : after ≡ before ++ (added piece p).bytes = h ∙ ap (λ (x : BlocksParts). before ++ x.bytes) same in
@@ -153,7 +154,7 @@ classic_begin (Err faults.Memory) m before after e h piece p same = tt
 classic_begin (Err (faults.Damaged at flaw)) m before after e h piece p same = absurd h
 classic_begin (Err faults.Long) m before after e h piece p same = absurd h
 
-pub unknown_begin : (m : BlocksParts) (out : List ℕ) → forms.Unknown ≡ form_of m.bytes → BeginsUpTo (Ok tt) forms.Unknown m m out out
+unknown_begin : (m : BlocksParts) (out : List ℕ) → forms.Unknown ≡ form_of m.bytes → BeginsUpTo (Ok tt) forms.Unknown m m out out
 unknown_begin m out e piece p same =
     let t = unknown_taken piece p out (e ∙ ap (λ (x : BlocksParts). form_of x.bytes) same) in
     (t.0, t.1, λ came given so. subst (λ (x : BlocksParts). IsSoFar (came ++ piece) (given ++ t.0) (parts forms.Unknown x)) (sym same) (t.2 came given so))
@@ -178,9 +179,21 @@ unwritten_stops faults.Memory m bytes before after h = tt
 unwritten_stops (faults.Damaged at flaw) m bytes before after h = absurd h
 unwritten_stops faults.Long m bytes before after h = absurd h
 
-pub classic_up_to : (piece : List ℕ) (r : Result (Unit {0}) TranslateFault) (p : BlocksParts) (before after : List ℕ) → PassesOn r piece before after
+classic_up_to : (piece : List ℕ) (r : Result (Unit {0}) TranslateFault) (p : BlocksParts) (before after : List ℕ) → PassesOn r piece before after
     → TakesUpTo piece r (parts forms.Classic p) (parts forms.Classic p) before after
+unfolding classic_taken
 classic_up_to piece (Ok u) p before after h = let t = classic_taken piece p before in (t.0, h, t.2)
 classic_up_to piece (Err faults.Memory) p before after h = tt
 classic_up_to piece (Err (faults.Damaged at flaw)) p before after h = absurd h
 classic_up_to piece (Err faults.Long) p before after h = absurd h
+
+-- where the form is known by another name
+
+pub unknown_any : (f : Form) (m : BlocksParts) (out : List ℕ) → f ≡ forms.Unknown → f ≡ form_of m.bytes → BeginsUpTo (Ok tt) f m m out out
+unknown_any f m out e h =
+    subst (λ (x : Form). BeginsUpTo (Ok tt) x m m out out) (sym e) (unknown_begin m out (sym e ∙ h))
+
+pub classic_any : (piece : List ℕ) (r : Result (Unit {0}) TranslateFault) (t : TranslationParts) (before after : List ℕ) → t.form ≡ forms.Classic
+    → PassesOn r piece before after → TakesUpTo piece r t t before after
+classic_any piece r t before after e h =
+    subst (λ (x : Form). TakesUpTo piece r (parts x t.blocks) (parts x t.blocks) before after) (sym e) (classic_up_to piece r t.blocks before after h)

@@ -142,6 +142,7 @@ goes_past p f out h = (classic (seen p.state p.bytes) f.news, refl, λ came give
 -- one part more
 pub goes_by : (a b c : BlocksParts) (x y z : List ℕ) (f : Found) → Goes a b x y → outcomes.Pass f ≡ next_in b.state b.bytes → c ≡ passed f b
     → z ≡ y ++ classic (seen b.state b.bytes) f.news → Goes a c x z
+unfolding goes_past
 goes_by a b c x y z f g h e out =
     let one = goes_past b f y (sym h) in
     let two : Goes b c y z = (one.0, out, λ came given so. subst (λ (p : BlocksParts). IsOf came (given ++ one.0) p) (sym e) (one.2 came given so)) in

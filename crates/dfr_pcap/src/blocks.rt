@@ -108,7 +108,6 @@ fn write_4<A: Allocator>(out: &mut Vec<u8, A>, number: u32) -> Result<(), AllocE
 }
 
 /// Writes a packet as libpcap does, with what was kept of it.
-#[tactic(auto, using(crate::proofs::Written::five))]
 fn write_packet<A: Allocator>(
     out: &mut Vec<u8, A>,
     moment: Moment,
