@@ -14,7 +14,8 @@ use std::alloc::Global;
 const MOST: u64 = 1000;
 
 /// What is told of a file in another form.
-const NO_CAPTURE: &str = "not a capture; expected one of `tcpdump -w` or `dumpcap`, in the form pcap \
+const NO_CAPTURE: &str =
+    "not a capture; expected one of `tcpdump -w` or `dumpcap`, in the form pcap \
      or pcapng";
 
 /// How the reading of a capture ended.

@@ -1,5 +1,5 @@
 -- What lies within no bytes lies within any.
-use Rattle.std.proofs.Common.{ℕ, ◌+◌, ◌≤◌, arith}
+use Rattle.std.proofs.Common.{ℕ, arith}
 use Rattle.dfr_pcap.specs.declared.block.News.{News}
 use Rattle.dfr_pcap.specs.declared.block.News.TheVariants as news
 use Rattle.dfr_pcap.specs.declared.block.Outcome.{Outcome}

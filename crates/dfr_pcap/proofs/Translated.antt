@@ -1,9 +1,9 @@
 -- Pieces of a capture in either form.
-use Rattle.std.proofs.Common.{◌≡◌, ◌∙◌, ℕ, ◌+◌, ◌≤◌, true, false, List, [], ◌++◌, length, drop, Result, Ok, Err, refl, sym, ap, subst, append_assoc, append-nil, inl, inr, arith}
-use Rattle.std.specs.Prelude.{nat_lt, ◌==◌}
+use Rattle.std.proofs.Common.{◌≡◌, ◌∙◌, ℕ, ◌+◌, ◌≤◌, false, List, [], ◌++◌, length, drop, Result, Ok, Err, refl, sym, ap, subst, append_assoc, append-nil, inl, inr, arith}
+use Rattle.std.specs.Prelude.{nat_lt}
 use Rattle.std.proofs.lemmas.Bool.{cases_Bool, ltb-false, le-ltb}
 use Rattle.std.proofs.lemmas.List.{length-append, get_or_append_left}
-use Rattle.dfr_bus.specs.Bytes.{byte, big_4}
+use Rattle.dfr_bus.specs.Bytes.{big_4}
 use Rattle.dfr_pcap.specs.declared.blocks.TranslateFault.{TranslateFault}
 use Rattle.dfr_pcap.specs.declared.blocks.TranslateFault.TheVariants as faults
 use Rattle.dfr_pcap.specs.declared.translation.Form.{Form}
@@ -47,20 +47,26 @@ none_yet = record { form = refl; gives = (refl, is_new, refl) }
 
 pub blocks_taken : (piece : List ℕ) (p q : BlocksParts) (before after : List ℕ) → Goes (added piece p) q before after
     → TakesIn piece (parts forms.Blocks p) (parts forms.Blocks q) before after
-blocks_taken piece p q before after g =
-    (g.0, g.1, λ came given so.
+blocks_taken piece p q before after g = (
+  g.0,
+  g.1,
+  λ came given so.
       record {
         form = form_known came piece forms.Blocks (λ u. u) so.form;
         gives = g.2 (came ++ piece) given (is_added came given piece p so.gives);
-      })
+      },
+)
 
 pub classic_taken : (piece : List ℕ) (p : BlocksParts) (before : List ℕ) → TakesIn piece (parts forms.Classic p) (parts forms.Classic p) before (before ++ piece)
-classic_taken piece p before =
-    (piece, refl, λ came given so.
+classic_taken piece p before = (
+  piece,
+  refl,
+  λ came given so.
       record {
         form = form_known came piece forms.Classic (λ u. u) so.form;
         gives = ap (λ (x : List ℕ). x ++ piece) so.gives;
-      })
+      },
+)
 
 -- ---- the piece that says the form
 
@@ -70,32 +76,41 @@ all_left came piece p so zero = (is_added came classic_head piece p so).left ∙
 
 pub unknown_taken : (piece : List ℕ) (p : BlocksParts) (before : List ℕ) → forms.Unknown ≡ form_of (added piece p).bytes
     → TakesIn piece (parts forms.Unknown p) (parts forms.Unknown (added piece p)) before before
-unknown_taken piece p before e =
-    ([], sym (append-nil before), λ came given so.
+unknown_taken piece p before e = (
+  [],
+  sym (append-nil before),
+  λ came given so.
       record {
         form = e ∙ ap (λ (x : List ℕ). form_of x) (all_left came piece p so.gives.1 so.gives.2);
         gives = (append-nil given ∙ so.gives.0, is_added came classic_head piece p so.gives.1, so.gives.2);
-      })
+      },
+)
 
 pub first_classic : (piece : List ℕ) (p : BlocksParts) (before : List ℕ) → forms.Classic ≡ form_of (added piece p).bytes
     → TakesIn piece (parts forms.Unknown p) (parts forms.Classic (added piece p)) before (before ++ (added piece p).bytes)
-first_classic piece p before e =
-    ((added piece p).bytes, refl, λ came given so.
+first_classic piece p before e = (
+  (added piece p).bytes,
+  refl,
+  λ came given so.
       record {
         form = e ∙ ap (λ (x : List ℕ). form_of x) (all_left came piece p so.gives.1 so.gives.2);
         gives = ap (λ (x : List ℕ). x ++ (added piece p).bytes) so.gives.0 ∙ all_left came piece p so.gives.1 so.gives.2;
-      })
+      },
+)
 
 pub first_blocks : (piece : List ℕ) (p q : BlocksParts) (before after : List ℕ) → forms.Blocks ≡ form_of (added piece p).bytes
     → Goes (added piece p) q (before ++ classic_head) after → TakesIn piece (parts forms.Unknown p) (parts forms.Blocks q) before after
-first_blocks piece p q before after e g =
-    (classic_head ++ g.0, g.1 ∙ append_assoc before classic_head g.0, λ came given so.
+first_blocks piece p q before after e g = (
+  classic_head ++ g.0,
+  g.1 ∙ append_assoc before classic_head g.0,
+  λ came given so.
       record {
         form = e ∙ ap (λ (x : List ℕ). form_of x) (all_left came piece p so.gives.1 so.gives.2);
         gives =
-          subst (λ (x : List ℕ). IsOf (came ++ piece) (x ++ (classic_head ++ g.0)) q) (sym so.gives.0)
-          (g.2 (came ++ piece) classic_head (is_added came classic_head piece p so.gives.1));
-      })
+            subst (λ (x : List ℕ). IsOf (came ++ piece) (x ++ (classic_head ++ g.0)) q) (sym so.gives.0)
+            (g.2 (came ++ piece) classic_head (is_added came classic_head piece p so.gives.1));
+      },
+)
 
 -- ---- what a call answers
 

@@ -1,5 +1,5 @@
 -- Steps over a capture in the form pcapng stay the same where more bytes come.
-use Rattle.std.proofs.Common.{◌≡◌, ◌∙◌, ℕ, ◌+◌, ◌-◌, ◌≤◌, ◌<◌, true, false, List, [], ◌∷◌, ◌++◌, length, take, drop, refl, sym, ap, subst, append_assoc, append-nil, inl, inr, arith}
+use Rattle.std.proofs.Common.{◌≡◌, ◌∙◌, ℕ, ◌+◌, ◌-◌, ◌≤◌, ◌<◌, false, List, [], ◌∷◌, ◌++◌, length, take, drop, refl, sym, ap, subst, append_assoc, append-nil, inl, inr, arith}
 use Rattle.std.specs.Prelude.{nat_lt}
 use Rattle.std.proofs.lemmas.Bool.{cases_Bool, ltb-false, le-ltb, cases_lt}
 use Rattle.std.proofs.lemmas.List.{drop-drop, drop-append-le, take-append-le, drop_all, length-drop, length-append}
@@ -11,8 +11,8 @@ use Rattle.dfr_pcap.specs.declared.block.Place.TheVariants as places
 use Rattle.dfr_pcap.specs.declared.block.Found.{Found}
 use Rattle.dfr_pcap.specs.declared.block.Outcome.{Outcome}
 use Rattle.dfr_pcap.specs.declared.block.Outcome.TheVariants as outcomes
-use Rattle.dfr_pcap.specs.Blocks.{needed, needs, found_at, next}
-use Rattle.dfr_pcap.specs.Walks.{State, start, after, next_in, classic, classic_head, seen, IsStep, Leads, BlocksParts, IsOf, added, passed, Goes}
+use Rattle.dfr_pcap.specs.Blocks.{needs, found_at, next}
+use Rattle.dfr_pcap.specs.Walks.{State, start, next_in, classic, classic_head, seen, IsStep, Leads, BlocksParts, IsOf, added, passed, Goes}
 
 abbrev IsWaiting : Outcome → Type 0
 IsWaiting outcomes.Wait = Unit {0}
@@ -27,7 +27,7 @@ needs_some : (p : Place) → 1 ≤ needs p
 needs_some places.Head = omega arith
 needs_some (places.Version rest) = omega arith
 needs_some (places.Options d) =
-    elim (cases_Bool (nat_lt d.left 8)) [ | inl few ↦ rw few (omega arith) | inr many ↦ rw many (omega arith) ]
+    elim (cases_Bool (nat_lt d.left 8)) [ inl few ↦ rw few (omega arith) | inr many ↦ rw many (omega arith) ]
 needs_some (places.Packet rest) = omega arith
 needs_some (places.Tail n) = omega arith
 
@@ -100,9 +100,9 @@ is_added came given piece p so =
     record {
       count = ap (λ (n : ℕ). n + length piece) so.count ∙ sym (length-append came piece);
       left =
-        ap (λ (x : List ℕ). x ++ drop (p.passed - p.came) piece) so.left
-        ∙ ap (λ (n : ℕ). drop p.passed came ++ drop (p.passed - n) piece) so.count
-        ∙ drop_ahead p.passed came piece;
+          ap (λ (x : List ℕ). x ++ drop (p.passed - p.came) piece) so.left
+          ∙ ap (λ (n : ℕ). drop p.passed came ++ drop (p.passed - n) piece) so.count
+          ∙ drop_ahead p.passed came piece;
       past = so.past;
       leads = leads_more came piece so.past p.passed p.state given so.leads;
     }
@@ -114,14 +114,18 @@ is_passed came given p f h so =
       count = so.count;
       left = ap (λ (x : List ℕ). drop f.length x) so.left ∙ drop-drop f.length p.passed came;
       past = f ∷ so.past;
-      leads =
-        (p.passed, p.state, given, so.leads,
-          record {
-            found = ap (λ (x : List ℕ). next_in p.state x) (sym so.left) ∙ h;
-            to = refl;
-            state = refl;
-            gives = ap (λ (x : List ℕ). given ++ classic (seen p.state x) f.news) so.left;
-          });
+      leads = (
+        p.passed,
+        p.state,
+        given,
+        so.leads,
+        record {
+          found = ap (λ (x : List ℕ). next_in p.state x) (sym so.left) ∙ h;
+          to = refl;
+          state = refl;
+          gives = ap (λ (x : List ℕ). given ++ classic (seen p.state x) f.news) so.left;
+        },
+      );
     }
 
 -- ---- more and more is given
@@ -130,10 +134,11 @@ pub goes_none : (p : BlocksParts) (out : List ℕ) → Goes p p out out
 goes_none p out = ([], sym (append-nil out), λ came given so. subst (λ (x : List ℕ). IsOf came x p) (sym (append-nil given)) so)
 
 pub goes_on : (a b c : BlocksParts) (x y z : List ℕ) → Goes a b x y → Goes b c y z → Goes a c x z
-goes_on a b c x y z g h =
-    (g.0 ++ h.0,
-      h.1 ∙ ap (λ (l : List ℕ). l ++ h.0) g.1 ∙ append_assoc x g.0 h.0,
-      λ came given so. subst (λ (l : List ℕ). IsOf came l c) (append_assoc given g.0 h.0) (h.2 came (given ++ g.0) (g.2 came given so)))
+goes_on a b c x y z g h = (
+  g.0 ++ h.0,
+  h.1 ∙ ap (λ (l : List ℕ). l ++ h.0) g.1 ∙ append_assoc x g.0 h.0,
+  λ came given so. subst (λ (l : List ℕ). IsOf came l c) (append_assoc given g.0 h.0) (h.2 came (given ++ g.0) (g.2 came given so)),
+)
 
 pub goes_past : (p : BlocksParts) (f : Found) (out : List ℕ) → next_in p.state p.bytes ≡ outcomes.Pass f
     → Goes p (passed f p) out (out ++ classic (seen p.state p.bytes) f.news)

@@ -1,7 +1,6 @@
 -- A capture in the form pcapng: sections of blocks. A block is its type, its length, its fields, and its length again; its
 -- length is a multiple of 4. A section begins with a block that says its version and the order of its numbers.
-use Rattle.std.specs.Prelude.{◌≡◌, ℕ, ◌+◌, ◌-◌, ◌*◌, ◌/◌, ◌%◌, ◌^◌, Bool, true, false, ◌&&◌, ◌||◌, not, List, [], ◌∷◌, ◌++◌, length, take, slice_get, slice_range, Option, Some, None, Result, Ok, Err, nat_lt, ◌==◌, if◌then◌else◌}
-use Rattle.std.specs.Int.{w32, to_le_bytes}
+use Rattle.std.specs.Prelude.{ℕ, ◌+◌, ◌-◌, ◌*◌, ◌/◌, ◌%◌, ◌^◌, Bool, ◌&&◌, ◌||◌, not, List, length, take, slice_get, Option, Some, None, Result, Ok, Err, nat_lt, ◌==◌, if◌then◌else◌}
 use Rattle.dfr_bus.specs.declared.capture.Order.{Order}
 use Rattle.dfr_bus.specs.declared.capture.Order.TheVariants.{Big, Little}
 use Rattle.dfr_bus.specs.Captures as captures
@@ -15,7 +14,6 @@ use Rattle.dfr_pcap.specs.declared.block.Place.{Place}
 use Rattle.dfr_pcap.specs.declared.block.Place.TheVariants as places
 use Rattle.dfr_pcap.specs.declared.block.News.{News}
 use Rattle.dfr_pcap.specs.declared.block.News.TheVariants as news
-use Rattle.dfr_pcap.specs.declared.block.Found as found
 use Rattle.dfr_pcap.specs.declared.block.Outcome as outcome
 use Rattle.dfr_pcap.specs.declared.block.Outcome.TheVariants as outcomes
 use Rattle.dfr_pcap.specs.Moments.{moment_of}

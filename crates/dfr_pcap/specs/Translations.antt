@@ -1,5 +1,5 @@
 -- A capture in either form that comes in pieces, and the capture of libpcap that is given of it.
-use Rattle.std.specs.Prelude.{◌≡◌, ℕ, ◌+◌, ◌^◌, ◌≤◌, Bool, false, not, List, [], ◌++◌, length, Result, Ok, Err, nat_lt, ◌==◌, if◌then◌else◌}
+use Rattle.std.specs.Prelude.{◌≡◌, ℕ, Bool, false, not, List, [], ◌++◌, length, Result, Ok, Err, nat_lt, ◌==◌, if◌then◌else◌}
 use Rattle.dfr_bus.specs.Bytes as bytes
 use Rattle.dfr_pcap.specs.declared.blocks.TranslateFault.{TranslateFault}
 use Rattle.dfr_pcap.specs.declared.blocks.TranslateFault.TheVariants as faults

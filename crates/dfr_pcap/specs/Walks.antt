@@ -1,5 +1,5 @@
 -- A capture in the form pcapng that comes in pieces, and the capture of libpcap that has the same packets.
-use Rattle.std.specs.Prelude.{◌≡◌, ◌==◌, Bool, false, not, ℕ, ◌+◌, ◌-◌, ◌^◌, ◌≤◌, ◌<◌, List, [], ◌∷◌, ◌++◌, length, take, drop, slice_range, Option, Some, None, Result, Ok, Err}
+use Rattle.std.specs.Prelude.{◌≡◌, ◌==◌, Bool, false, not, ℕ, ◌+◌, ◌-◌, ◌^◌, ◌≤◌, List, [], ◌∷◌, ◌++◌, length, take, drop, slice_range, Result, Ok, Err}
 use Rattle.std.specs.Int.{w32, to_le_bytes}
 use Rattle.dfr_bus.specs.declared.capture.Order.{Order}
 use Rattle.dfr_bus.specs.declared.capture.Order.TheVariants.{Little}

@@ -72,10 +72,10 @@ impl<A: Allocator> Model for Blocks<A> {
     ghost Value = { BlocksParts };
 
     ghost view = { λ b. record {
-        state = record { order = b.order; interfaces = b.interfaces.items; place = b.place };
-        came = b.came;
-        passed = b.passed;
-        bytes = drop b.at b.bytes.items;
+      state = record { order = b.order; interfaces = b.interfaces.items; place = b.place };
+      came = b.came;
+      passed = b.passed;
+      bytes = drop b.at b.bytes.items;
     } };
 
     ghost invariant = { λ b. (b.at ≤ length b.bytes.items) × (length b.bytes.items - b.at ≡ b.came - b.passed)
@@ -126,11 +126,7 @@ fn write_packet<A: Allocator>(
 }
 
 /// Writes what a part of the capture says of packets.
-fn write_news<A: Allocator>(
-    out: &mut Vec<u8, A>,
-    news: News,
-    seen: &[u8],
-) -> Result<(), AllocError>
+fn write_news<A: Allocator>(out: &mut Vec<u8, A>, news: News, seen: &[u8]) -> Result<(), AllocError>
     requires { HasContent news (length seen.now) }
     ensures { OnOk result (out.new.items ≡ out.old.items ++ spec.classic seen.now news) }
 {
@@ -206,7 +202,12 @@ impl<A: Allocator + Copy> Blocks<A> {
         ensures sound { IsSound result (needs self.now.state.place) }
         ensures inside { IsInside result (needs self.now.state.place) (length self.now.bytes) }
     {
-        next(self.order, &self.interfaces, self.place, &self.bytes[self.at..])
+        next(
+            self.order,
+            &self.interfaces,
+            self.place,
+            &self.bytes[self.at..],
+        )
     }
 
     /// Learns what a part of the capture says.
@@ -231,7 +232,11 @@ impl<A: Allocator + Copy> Blocks<A> {
         ensures { self.new ≡ spec.moved count self.old }
     {
         let left = self.bytes.len() - self.at;
-        self.at += if count < left as u64 { count as usize } else { left };
+        self.at += if count < left as u64 {
+            count as usize
+        } else {
+            left
+        };
         self.passed += count;
     }
 
@@ -259,7 +264,10 @@ impl<A: Allocator + Copy> Blocks<A> {
         loop {
             match self.next() {
                 Outcome::Wait => return Ok(()),
-                Outcome::Fault(at, flaw) => return Err(TranslateFault::Damaged(self.passed + at, flaw)),
+                Outcome::Fault(at, flaw) => return Err(TranslateFault::Damaged(
+                    self.passed + at,
+                    flaw,
+                )),
                 Outcome::Pass(found) => match self.take(&found, out) {
                     Ok(()) => {}
                     Err(_) => return Err(TranslateFault::Memory),

@@ -4,7 +4,7 @@ ghost use Rattle.std.specs.Prelude.{◌≡◌, ◌+◌, ◌≤◌, length};
 ghost use Rattle.dfr_pcap.specs.Blocks as spec;
 ghost use Rattle.dfr_pcap.specs.Bounds.{IsSound};
 
-use crate::block::{Described, Outcome, News, Place, pass, tail};
+use crate::block::{Described, News, Outcome, Place, pass, tail};
 use crate::flaw::Flaw;
 use crate::moment::Interface;
 use crate::numbers::{eight_at, two_at};

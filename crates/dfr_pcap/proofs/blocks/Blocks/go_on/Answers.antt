@@ -1,4 +1,3 @@
-use Rattle.std.proofs.Common.{sym, refl}
 use Rattle.dfr_pcap.proofs.Walks.{goes_none, goes_by, leaves_fewer}
 use Rattle.dfr_pcap.proofs.blocks.Blocks.go_on.Goals as goal
 
