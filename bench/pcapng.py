@@ -1,10 +1,11 @@
 #!/usr/bin/env python3
-"""Random captures in the form pcapng, many of them damaged: what `dfr_pcap` makes of them, by `crates/capture_forms`, by a reader in Python
-that has the whole capture, and by `tshark`.
+"""Random captures in the form pcapng, many of them damaged: what `dfr_pcap` makes of them, by a reader in Python that has the whole
+capture, and by `tshark`.
 
-    bench/pcapng.py PROGRAM [CAPTURES [SEED]]        # compares the three
-    bench/pcapng.py make [CAPTURES [SEED]]           # the input, to standard output
-    bench/pcapng.py judge FILE [CAPTURES [SEED]]     # FILE has what the program printed of that input
+    bench/pcapng.py tree FOLDER                      # a program over dfr_pcap, for rt try
+    bench/pcapng.py make [CAPTURES [SEED]] > INPUT
+    (cd FOLDER/crates/capture_forms && rt try --steps 2000000000000 --seconds 1200 < INPUT > OUTPUT)
+    bench/pcapng.py judge OUTPUT [CAPTURES [SEED]]   # compares the three
 
 Environment: NO_SHARK=1 leaves tshark out.
 
@@ -14,6 +15,7 @@ elsewhere, so only the packets that both give are compared, and how many differ 
 """
 import os
 import random
+import shutil
 import struct
 import subprocess
 import sys
@@ -317,20 +319,110 @@ def judge(lines, count, seed, with_shark=True):
     return wrong
 
 
+# ---- the program
+
+PROGRAM = """\
+//! Prints what is given of each capture on standard input, and what is said at its end.
+#![tactic(auto)]
+
+use anyhow::Result;
+use dfr_pcap::Translation;
+use std::alloc::Global;
+use std::io;
+use std::io::{BufWriter, Read, Write};
+
+fn worth(digit: u8) -> u8 {
+    match digit {
+        b'0'..=b'9' => digit - b'0',
+        b'a'..=b'f' => digit - b'a' + 10,
+        _ => 0,
+    }
+}
+
+fn bytes_of(alloc: Global, digits: &[u8]) -> Result<Vec<u8>> {
+    let mut bytes = Vec::new(alloc);
+    for pair in digits.chunks(2) {
+        if let [high, low] = pair {
+            bytes.push(worth(*high) * 16 + worth(*low))?;
+        }
+    }
+    Ok(bytes)
+}
+
+fn print_hex<W: Write>(out: &mut W, bytes: &[u8]) -> io::Result<()> {
+    for byte in bytes {
+        write!(out, "{:02x}", *byte)?;
+    }
+    Ok(())
+}
+
+fn translate<W: Write>(alloc: Global, out: &mut W, size: usize, bytes: &[u8]) -> Result<()> {
+    let mut translation = Translation::new(alloc);
+    let mut plain = Vec::new(alloc);
+    let mut said = None;
+    for piece in bytes.chunks(size) {
+        if said.is_none() {
+            said = translation.take_in(piece, &mut plain).err();
+        }
+    }
+    print_hex(out, &plain)?;
+    match said {
+        Some(fault) => writeln!(out, " {fault}")?,
+        None => {
+            let within = translation.is_within();
+            writeln!(out, " {within}")?;
+        }
+    }
+    Ok(())
+}
+
+fn main(rt: HostRuntime) -> Result<()> {
+    let alloc = rt.alloc();
+    let mut text = String::new(alloc);
+    rt.reader().read_to_string(&mut text)?;
+    let mut out = BufWriter::new(alloc, io::writer(&rt))?;
+    for line in text.lines() {
+        let mut words = line.split_whitespace();
+        if let (Some(size), Some(digits)) = (words.next(), words.next()) {
+            let Ok(size) = size.parse::<usize>() else { continue };
+            if size > 0 {
+                let bytes = bytes_of(alloc, digits.as_bytes())?;
+                translate(alloc, &mut out, size, &bytes)?;
+            }
+        }
+    }
+    out.flush()?;
+    Ok(())
+}
+"""
+
+
+def make_tree(folder):
+    """The crates below the program, and the program."""
+    top = os.path.dirname(os.path.dirname(os.path.abspath(__file__)))
+    for name in ("dfr_bus", "dfr_pcap"):
+        for part in ("src", "specs", "proofs"):
+            shutil.copytree(f"{top}/crates/{name}/{part}", f"{folder}/crates/{name}/{part}")
+    shutil.copy(f"{top}/HANDLES", folder)
+    os.makedirs(f"{folder}/crates/capture_forms/src")
+    with open(f"{folder}/crates/capture_forms/src/main.rt", "w") as it:
+        it.write(PROGRAM)
+    with open(f"{folder}/crates.txt", "w") as it:
+        it.write("dfr_bus: thiserror\ndfr_pcap: dfr_bus thiserror\ncapture_forms: dfr_pcap anyhow\n")
+
+
 def main():
     words = sys.argv[1:]
-    is_file = words[0] == "judge"
-    numbers = [int(it) for it in words[2 if is_file else 1:]]
+    if words[0] == "tree":
+        return make_tree(words[1])
+    numbers = [int(it) for it in words[2 if words[0] == "judge" else 1:]]
     count, seed = (numbers + [1000, 1][len(numbers):])[:2]
-    text = "".join(f"{size} {data.hex()}\n" for size, data in cases(count, seed))
     if words[0] == "make":
-        sys.stdout.write(text)
+        for size, data in cases(count, seed):
+            print(size, data.hex())
         return 0
-    if is_file:
-        lines = open(words[1]).readlines()
-    else:
-        lines = subprocess.run([words[0]], input=text, capture_output=True, text=True, check=True).stdout.splitlines()
-    return judge(lines, count, seed, "NO_SHARK" not in os.environ) > 0
+    with open(words[1]) as it:
+        return judge(it.readlines(), count, seed, "NO_SHARK" not in os.environ) > 0
 
 
 if __name__ == "__main__":
