@@ -6,6 +6,7 @@ ghost use Rattle.dfr_convert.specs.Ends as spec;
 use crate::conversion::{Conversion, Stop};
 use crate::teller::{End, Teller};
 use dfr_capture::{Feed, Plan};
+use dfr_pcap::{TranslateFault, Translation};
 use std::alloc::{AllocError, Global};
 use std::io;
 use std::io::{ErrorKind, Read};
@@ -21,9 +22,12 @@ const HEAD: usize = 24;
 pub struct CaptureLines<'a, I, R> {
     input: I,
     teller: Teller<'a, R>,
+    translation: Translation<Global>,
     conversion: Conversion<Global>,
     /// What is read at once.
     piece: Vec<u8>,
+    /// What the last piece is in the form of libpcap.
+    plain: Vec<u8>,
     /// What the last piece gave.
     feed: Feed<Global>,
     /// How many bytes of its lines were handed on.
@@ -77,8 +81,10 @@ impl<'a, I: Read + Drop, R: Eprint + AllocGlobal> CaptureLines<'a, I, R> {
         Ok(CaptureLines {
             input,
             teller: Teller::new(rt, name),
+            translation: Translation::new(rt.alloc()),
             conversion,
             piece,
+            plain: Vec::new(rt.alloc()),
             feed: Feed::new(rt.alloc()),
             at: 0,
             end: None,
@@ -101,16 +107,34 @@ impl<'a, I: Read + Drop, R: Eprint + AllocGlobal> CaptureLines<'a, I, R> {
     }
 
     /// Tells what the last piece gave, and how the capture ended, if it was read no further.
-    fn tell(&mut self, taken: Result<(), Stop>) {
+    fn tell(&mut self, taken: Result<(), Stop>, translated: Result<(), TranslateFault>) {
         self.teller.tell(&self.feed);
         if let Err(stop) = taken {
             self.finish(End::Stopped(stop));
+        } else if let Err(fault) = translated {
+            self.finish(End::Untranslated(fault));
         }
+    }
+
+    /// Takes in so many bytes of the piece.
+    fn take_in(&mut self, count: usize)
+        requires { count ≤ length self.old.piece.items }
+    {
+        self.at = 0;
+        clear(&mut self.feed);
+        self.plain.clear();
+        let translated = self
+            .translation
+            .take_in(&self.piece[..count], &mut self.plain);
+        let taken = self
+            .conversion
+            .take_in(&self.plain, &mut self.feed, &mut self.first);
+        self.tell(taken, translated);
     }
 
     /// The capture is at its end.
     fn end(&mut self) {
-        let is_within = self.conversion.is_within();
+        let is_within = self.translation.is_within() || self.conversion.is_within();
         self.finish(end_of(self.came, is_within, self.first));
     }
 
@@ -123,12 +147,7 @@ impl<'a, I: Read + Drop, R: Eprint + AllocGlobal> CaptureLines<'a, I, R> {
             }
             Ok(count) => {
                 self.came = (self.came + count).min(HEAD);
-                self.at = 0;
-                clear(&mut self.feed);
-                let taken = self
-                    .conversion
-                    .take_in(&self.piece[..count], &mut self.feed, &mut self.first);
-                self.tell(taken);
+                self.take_in(count);
                 Ok(())
             }
             Err(error) => Err(error),

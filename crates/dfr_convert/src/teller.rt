@@ -7,14 +7,16 @@ use crate::words::Words;
 use dfr_bay::Lost;
 use dfr_bus::Wrong;
 use dfr_capture::Feed;
+use dfr_pcap::TranslateFault;
 use std::alloc::Global;
 
 /// How many events are told one by one.
 const MOST: u64 = 1000;
 
 /// What is told of a file in another form.
-const NO_CAPTURE: &str = "not a capture of libpcap; write it with `tcpdump -w`, or convert it with \
-     `editcap -F pcap`";
+const NO_CAPTURE: &str =
+    "not a capture; expected one of `tcpdump -w` or `dumpcap`, in the form pcap \
+     or pcapng";
 
 /// How the reading of a capture ended.
 #[derive(Clone, Copy, Debug, PartialEq, Eq)]
@@ -31,6 +33,8 @@ pub enum End {
     Cut,
     /// Before its end.
     Stopped(Stop),
+    /// Before its end, at a block of the form pcapng.
+    Untranslated(TranslateFault),
 }
 
 /// How much there was to tell.
@@ -166,6 +170,7 @@ impl<'a, R: Eprint> Teller<'a, R> {
                 eprintln!(self.rt; "{name}: {NO_CAPTURE}")
             }
             End::Stopped(stop) => eprintln!(self.rt; "{name}: {stop}"),
+            End::Untranslated(fault) => eprintln!(self.rt; "{name}: {fault}"),
         };
     }
 }

@@ -3,3 +3,8 @@ pub mod Begins
 pub mod Moved
 pub mod More
 pub mod Whole
+pub mod Moments
+pub mod Bounds
+pub mod Walks
+pub mod Translated
+pub mod Written

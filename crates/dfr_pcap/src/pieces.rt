@@ -73,7 +73,7 @@ fn is_long(passed: u64, left: usize, more: usize) -> bool
 }
 
 /// What is left, and a piece after it.
-fn joined<A: Allocator + Copy>(
+pub(crate) fn joined<A: Allocator + Copy>(
     alloc: A,
     left: &[u8],
     piece: &[u8],
