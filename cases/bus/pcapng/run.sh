@@ -13,10 +13,12 @@ def block(order, kind, body):
     return struct.pack(order + "I", kind) + length + body + length
 def option(order, code, value):
     return struct.pack(order + "HH", code, len(value)) + value + bytes(-len(value) % 4)
+base = struct.unpack_from("<I", data, 24)[0]  # times of 10^-12 s need an offset
 def section(order, units):
     out = block(order, 0x0A0D0D0A, struct.pack(order + "IHHq", 0x1A2B3C4D, 1, 0, -1) + option(order, 3, b"Linux") + bytes(4))
     for unit in units:
-        out += block(order, 1, struct.pack(order + "HHI", 1, 0, 262144) + option(order, 2, b"bay") + option(order, 9, bytes([unit])) + bytes(4))
+        out += block(order, 1, struct.pack(order + "HHI", 1, 0, 262144) + option(order, 2, b"bay") + option(order, 9, bytes([unit])) +
+                     option(order, 14, struct.pack(order + "q", base if unit == 12 else 0)) + bytes(4))
     return out
 at, count, out, order, units = 24, 0, b"", "<", []
 while at < len(data):
@@ -27,7 +29,8 @@ while at < len(data):
     seconds, nanos, kept, long = struct.unpack_from("<IIII", data, at)
     unit = units[count % len(units)]
     ticks = 10**unit if unit < 128 else 2**(unit - 128)
-    when = -(-(seconds * 10**9 + nanos) * ticks // 10**9) if unit == 158 else (seconds * 10**9 + nanos) * ticks // 10**9
+    when = ((seconds - (base if unit == 12 else 0)) * 10**9 + nanos) * ticks
+    when = -(-when // 10**9) if unit == 158 else when // 10**9
     body = struct.pack(order + "IIIII", count % len(units), when >> 32, when & 0xFFFFFFFF, kept, long) + data[at + 16:at + 16 + kept]
     body += bytes(-kept % 4)
     if count % 3 == 0:
@@ -47,7 +50,7 @@ for size in 1 7 1000 30000 10000000; do
 done
 section() { printf '\n\r\r\n\x1c\0\0\0M<+\x1a\x01\0\0\0\xff\xff\xff\xff\xff\xff\xff\xff\x1c\0\0\0'; }
 interface() { printf '\x01\0\0\0\x14\0\0\0\x01\0\0\0\0\0\x04\0\x14\0\0\0'; }
-packet() { printf '\x06\0\0\0\x24\0\0\0'"$1"'\0\0\0\0\0\0\0\0\0\0\0'"$2"'\x02\0\0\0\x01\x02\0\0'"$3"; } # INTERFACE KEPT END
+packet() { printf '\x06\0\0\0\x24\0\0\0'"$1"'\0\0\0\0\0\0\0\0'"$2"'\x02\0\0\0\x01\x02\0\0'"$3"; } # INTERFACE KEPT END
 read_it() { "$dfrbus" "$bay/data/bay.setup" 2>&1 | tail -n 1; }
 section | head -c 3 | read_it
 section | read_it
