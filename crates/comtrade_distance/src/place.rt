@@ -21,7 +21,7 @@ pub struct Place {
 
 /// The part of the line whose drop leaves of the voltage only what is in phase with a current: the
 /// voltage of an arc. None where the drop is in phase with it, too.
-fn part_of(voltage: Phasor, drop: Phasor, current: Phasor) -> Option<f64>
+pub(crate) fn part_of(voltage: Phasor, drop: Phasor, current: Phasor) -> Option<f64>
     ensures { result ≡ spec.part voltage drop current }
 {
     let part = voltage.across(current) / drop.across(current);
