@@ -38,7 +38,12 @@ fn add_inputs<R: AllocGlobal + Eprint>(
 ) -> Result<(), ToolFault> {
     let lists = Bump::new(rt.alloc());
     let mut said = Vec::new(&lists);
-    match file_spelled(&lists, inputs, Reading::to_list(taken.encoding, false), &mut said)? {
+    match file_spelled(
+        &lists,
+        inputs,
+        Reading::to_list(taken.encoding, false),
+        &mut said,
+    )? {
         Some(mut loaded) => {
             to_zone_of(zone, &mut loaded, &mut said)?;
             say_repairs(rt, name, &said)?;

@@ -11,6 +11,7 @@ use std::rt::Files;
 const MOST: usize = 65_536;
 
 const LONG: &[u8] = b"is longer than 65536 bytes; expected the file of a line";
+
 const NO_TEXT: &[u8] = b"is not UTF-8; expected TOML";
 
 /// Why a file tells no line, after its name. A message of several lines becomes one.

@@ -12,8 +12,9 @@ minus p q = record { re = sub binary64 p.re q.re; im = sub binary64 p.im q.im }
 -- the product: magnitudes are multiplied, angles added
 abbrev pub times : Phasor → Phasor → Phasor
 times p q = record {
-    re = sub binary64 (mul binary64 p.re q.re) (mul binary64 p.im q.im);
-    im = add binary64 (mul binary64 p.im q.re) (mul binary64 p.re q.im) }
+  re = sub binary64 (mul binary64 p.re q.re) (mul binary64 p.im q.im);
+  im = add binary64 (mul binary64 p.im q.re) (mul binary64 p.re q.im);
+}
 
 abbrev pub scaled : Float → Phasor → Phasor
 scaled x p = record { re = mul binary64 p.re x; im = mul binary64 p.im x }

@@ -43,10 +43,11 @@ by_reactance line l s =
 
 abbrev pub range_in : Place → Float → Range
 range_in p reactance = record {
-    least = lower (lower p.behind p.ahead) p.likely;
-    greatest = upper (upper p.behind p.ahead) p.likely;
-    likely = p.likely;
-    reactance = reactance }
+  least = lower (lower p.behind p.ahead) p.likely;
+  greatest = upper (upper p.behind p.ahead) p.likely;
+  likely = p.likely;
+  reactance = reactance;
+}
 
 -- none that is wider than the line, or at neither end within a twentieth of it
 abbrev pub judged : Range → Result Range Unplaced

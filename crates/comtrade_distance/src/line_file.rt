@@ -43,9 +43,7 @@ pub enum LineFault {
     Zero(&'static str),
     #[error("{0} is too large; expected at most 1000000")]
     Great(&'static str),
-    #[error(
-        "a key is not known; expected length, r1, x1, r0, x0, voltage_ratio and current_ratio"
-    )]
+    #[error("a key is not known; expected length, r1, x1, r0, x0, voltage_ratio and current_ratio")]
     Unknown,
 }
 

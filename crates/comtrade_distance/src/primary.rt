@@ -6,7 +6,9 @@ ghost use Rattle.comtrade_distance.specs.Primary as spec;
 use dfr_channels::Side;
 
 const ONE: f64 = 1.0;
+
 const THOUSAND: f64 = 1000.0;
+
 const THOUSANDTH: f64 = 0.001;
 
 /// How many volts or amperes a unit is, by its first letter: its prefix, or V or A.

@@ -47,7 +47,9 @@ pub enum Unplaced {
 
 /// The least end of a range and the greatest begin, and how wide it is at most.
 const NEAREST: f64 = -0.05;
+
 const FARTHEST: f64 = 1.05;
+
 const WIDEST: f64 = 1.0;
 
 fn lower(one: f64, other: f64) -> f64

@@ -6,12 +6,7 @@ use comtrade_values::{put, put_number};
 use std::alloc::AllocError;
 
 /// `16.71 to 16.89`, with so many places.
-fn put_range(
-    out: &mut Vec<u8>,
-    least: f64,
-    greatest: f64,
-    places: u8,
-) -> Result<(), AllocError> {
+fn put_range(out: &mut Vec<u8>, least: f64, greatest: f64, places: u8) -> Result<(), AllocError> {
     put_places(out, least, places)?;
     put(out, " to ")?;
     put_places(out, greatest, places)
