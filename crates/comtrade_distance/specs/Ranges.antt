@@ -1,7 +1,7 @@
 -- Parts of a line in which a fault is, by what one end measures; and why there are none.
 use Rattle.std.specs.Prelude.{Bool, true, false, not, ◌&&◌, ◌||◌, Option, Some, None, Result, Ok, Err, if◌then◌else◌}
 use Rattle.std.specs.Float.{Float, binary64, float_zero}
-use lib.Ieee.{sub, lt}
+use lib.Ieee.{add, sub, lt}
 use Rattle.comtrade_analysis.specs.Phasors.{times, mirrored, across}
 use Rattle.comtrade_analysis.specs.declared.phasor.Phasor.{Phasor}
 use Rattle.comtrade_distance.specs.Loops.{drop_along, voltage, reference}
@@ -13,7 +13,7 @@ use Rattle.comtrade_distance.specs.declared.range.Range.{Range}
 use Rattle.comtrade_distance.specs.declared.range.Seen.{Seen}
 use Rattle.comtrade_distance.specs.declared.range.Unplaced.{Unplaced}
 use Rattle.comtrade_distance.specs.declared.range.Unplaced.TheVariants.{Open, Wide, Behind, Beyond}
-use Rattle.comtrade_distance.specs.declared.range.TheConstants.{NEAREST, FARTHEST, WIDEST}
+use Rattle.comtrade_distance.specs.declared.range.TheConstants.{MARGIN, NEAREST, FARTHEST, WIDEST}
 
 abbrev pub lower : Float → Float → Float
 lower x y = if lt x y then x else y
@@ -43,10 +43,18 @@ by_reactance line l s =
 
 abbrev pub range_in : Place → Float → Range
 range_in p reactance = record {
-  least = lower (lower p.behind p.ahead) p.likely;
-  greatest = upper (upper p.behind p.ahead) p.likely;
+  least = sub binary64 (lower (lower p.behind p.ahead) p.likely) MARGIN;
+  greatest = add binary64 (upper (upper p.behind p.ahead) p.likely) MARGIN;
   likely = p.likely;
   reactance = reactance;
+}
+
+abbrev pub joined : Range → Range → Range
+joined r s = record {
+  least = lower r.least s.least;
+  greatest = upper r.greatest s.greatest;
+  likely = r.likely;
+  reactance = r.reactance;
 }
 
 -- none that is wider than the line, or at neither end within a twentieth of it

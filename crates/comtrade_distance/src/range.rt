@@ -22,7 +22,8 @@ pub struct Seen {
 /// Parts of the line up to a fault: 0 at the measured end, 1 at the far one.
 #[derive(Clone, Copy, Debug)]
 pub struct Range {
-    /// By Takagi's method, for each current through the fault near the reference.
+    /// By Takagi's method, for each current through the fault near the reference, and a hundredth of
+    /// the line to either side.
     pub least: f64,
     pub greatest: f64,
     /// The same for the reference itself.
@@ -44,6 +45,9 @@ pub enum Unplaced {
     Behind,
     Beyond,
 }
+
+/// What a cycle with noise and a dc part leaves open.
+const MARGIN: f64 = 0.01;
 
 /// The least end of a range and the greatest begin, and how wide it is at most.
 const NEAREST: f64 = -0.05;
@@ -108,8 +112,8 @@ fn range_in(place: Place, reactance: f64) -> Range
     ensures { result ≡ spec.range_in place reactance }
 {
     Range {
-        least: lower(lower(place.behind, place.ahead), place.likely),
-        greatest: upper(upper(place.behind, place.ahead), place.likely),
+        least: lower(lower(place.behind, place.ahead), place.likely) - MARGIN,
+        greatest: upper(upper(place.behind, place.ahead), place.likely) + MARGIN,
         likely: place.likely,
         reactance,
     }
@@ -127,6 +131,21 @@ fn judged(range: Range) -> Result<Range, Unplaced>
         Err(Unplaced::Beyond)
     } else {
         Ok(range)
+    }
+}
+
+impl Range {
+    /// The range from the lesser of two begins to the greater of two ends; what is likely is that of
+    /// this one.
+    pub fn joined(self, other: Range) -> Range
+        ensures { result ≡ spec.joined self other }
+    {
+        Range {
+            least: lower(self.least, other.least),
+            greatest: upper(self.greatest, other.greatest),
+            likely: self.likely,
+            reactance: self.reactance,
+        }
     }
 }
 

@@ -44,7 +44,7 @@ pub(crate) fn lack_words(lack: Lack) -> &'static str {
     match lack {
         Lack::Memory => "memory is out",
         Lack::Evolving => "the fault evolves, so its loop changes",
-        Lack::Type => "the type of the fault is doubtful, and with it the loop",
+        Lack::Type => "the voltages look like another type, so the loop is not known",
         Lack::Cycle => "no whole cycle of the fault, or none before it, can be measured",
         Lack::Voltages => "there are no voltages",
         Lack::Missing => "samples are missing in the cycles that are measured",

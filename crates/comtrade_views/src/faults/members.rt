@@ -37,10 +37,12 @@ pub(crate) struct PhasorMembers {
 
 /// Where on a line a fault is, in kilometres from the measured end and in percent of the line: by
 /// Takagi's method from the least to the greatest, if the current through the fault is at most so
-/// many degrees from the reference, and by the reactance of the loop alone. The rows were measured.
+/// many degrees from the reference, and by the reactance of the loop alone. The loop is doubtful where
+/// the type is. The rows were measured.
 #[derive(Drop, Serialize)]
 pub(crate) struct PlaceMembers {
     pub(crate) fault_loop: String,
+    pub(crate) doubtful: bool,
     pub(crate) method: String,
     pub(crate) line_km: f64,
     pub(crate) least_km: f64,

@@ -1,7 +1,7 @@
 //! Where on a line a fault is, as a value, or why that is not told.
 
 use crate::cycles::{Measured, Phasor, Window, measured_at, phasor_in};
-use crate::faults::both::Both;
+use crate::faults::both::{Both, measured_over};
 use crate::faults::known::{Known, Source};
 use crate::faults::lack::{Lack, lack_words};
 use crate::faults::members::PlaceMembers;
@@ -9,7 +9,7 @@ use crate::faults::words::{loop_name, reference_words};
 use crate::number::ordinal;
 use crate::times::time_at;
 use comtrade_analysis::Sequence;
-use comtrade_distance::{LineData, Loop, Range, Seen, Three, factor_of, loop_of, range_of};
+use comtrade_distance::{LineData, Range, Seen, Three, factor_of, loop_of, range_of};
 use comtrade_format::nearest_f64;
 use comtrade_values::{Memory, trim};
 use std::alloc::{AllocError, Allocator, Global};
@@ -130,65 +130,109 @@ fn turned(three: Three, turn: Phasor) -> Three {
     }
 }
 
+/// What is measured of a fault in a cycle, and in the one before the fault.
+#[derive(Clone, Copy)]
+struct Cycled<'a, A: Allocator> {
+    before: (Window, &'a [Option<Measured<A>>]),
+    fault: (Window, &'a [Option<Measured<A>>]),
+}
+
 /// What the measured end sees of a fault, on the primary side and by the time of its cycle.
 fn seen_of<A: Allocator + Copy>(
     source: &Source<'_, A>,
     known: &Known,
     line: &LineData,
-    both: &Both<A>,
-    (before, fault): (Window, Window),
+    cycled: Cycled<'_, A>,
 ) -> Result<Seen, Lack> {
     let place = known.found.place;
     let Some(sequence) = place.voltages else {
         return Err(Lack::Voltages);
     };
     let ratio = line.current_ratio;
-    let turn = turn_between(source, before, fault)?;
-    let earlier = three_at(source, &both.before, place.currents, ratio)?;
+    let (from, to) = (cycled.before.0, cycled.fault.0);
+    let turn = turn_between(source, from, to)?;
+    let earlier = three_at(source, cycled.before.1, place.currents, ratio)?;
+    let measures = cycled.fault.1;
     Ok(Seen {
-        voltages: three_at(source, &both.fault, sequence, line.voltage_ratio)?,
-        currents: three_at(source, &both.fault, place.currents, ratio)?,
+        voltages: three_at(source, measures, sequence, line.voltage_ratio)?,
+        currents: three_at(source, measures, place.currents, ratio)?,
         before: turned(earlier, turn),
     })
 }
 
-/// The parts of the line in which a fault is, and the cycle that was measured.
+/// The parts of the line in which a fault is, by one of its cycles.
 fn part_of<A: Allocator + Copy>(
+    source: &Source<'_, A>,
+    known: &Known,
+    line: &LineData,
+    cycled: Cycled<'_, A>,
+) -> Result<Range, Lack> {
+    let seen = seen_of(source, known, line, cycled)?;
+    if is_distorted(cycled.fault.1, known.found.place.currents) {
+        return Err(Lack::Distorted);
+    }
+    let turn = Phasor::unit(DEGREES / 360.0 * TAU);
+    let range = range_of(line.line, loop_of(known.fault), seen, turn)?;
+    Ok(range)
+}
+
+/// The parts by the last cycle of a fault and the one half a cycle earlier, if it is there; the first
+/// row of both, and the last one.
+fn parts_of<A: Allocator + Copy>(
+    source: &Source<'_, A>,
+    known: &Known,
+    line: &LineData,
+    both: &Both<A>,
+) -> Result<(Range, (usize, usize)), Lack> {
+    let (Some(before), Some(last)) = (both.cycles.before, both.cycles.last) else {
+        return Err(Lack::Cycle);
+    };
+    let cycled = Cycled {
+        before: (before, &both.before),
+        fault: (last, &both.fault),
+    };
+    let range = part_of(source, known, line, cycled)?;
+    let Some(earlier) = both.cycles.earlier else {
+        return Ok((range, (last.from, last.last())));
+    };
+    let measures = measured_over(source.lists, source.file, Some(earlier))?;
+    let cycled = Cycled {
+        before: (before, &both.before),
+        fault: (earlier, &measures),
+    };
+    let other = part_of(source, known, line, cycled)?;
+    Ok((range.joined(other), (earlier.from, last.last())))
+}
+
+/// The parts of the line in which a fault is, if the fault has one loop.
+fn found_of<A: Allocator + Copy>(
     source: &Source<'_, A>,
     known: &Known,
     line: &LineData,
     both: &Both<A>,
     is_evolving: bool,
-) -> Result<(Range, Window), Lack> {
-    let doubts = known.found.disturbance.doubts;
+) -> Result<(Range, (usize, usize)), Lack> {
     if is_evolving {
         return Err(Lack::Evolving);
     }
-    if doubts.ratio || doubts.voltages {
+    if known.found.disturbance.doubts.voltages {
         return Err(Lack::Type);
     }
-    let (Some(before), Some(fault)) = both.cycles else {
-        return Err(Lack::Cycle);
-    };
-    let seen = seen_of(source, known, line, both, (before, fault))?;
-    if is_distorted(&both.fault, known.found.place.currents) {
-        return Err(Lack::Distorted);
-    }
-    let turn = Phasor::unit(DEGREES / 360.0 * TAU);
-    let range = range_of(line.line, loop_of(known.fault), seen, turn)?;
-    Ok((range, fault))
+    parts_of(source, known, line, both)
 }
 
 /// A range as kilometres and percent of the line.
 fn members_of(
     alloc: Global,
     length: f64,
-    fault_loop: Loop,
+    known: &Known,
     range: Range,
-    cycle: Window,
+    rows: (usize, usize),
 ) -> Result<PlaceMembers, AllocError> {
+    let fault_loop = loop_of(known.fault);
     Ok(PlaceMembers {
         fault_loop: String::from_str(alloc, loop_name(fault_loop))?,
+        doubtful: known.found.disturbance.doubts.ratio,
         method: String::from_str(alloc, "Takagi")?,
         line_km: length,
         least_km: range.least * length,
@@ -201,8 +245,8 @@ fn members_of(
         reactance_percent: range.reactance * 100.0,
         reference: String::from_str(alloc, reference_words(fault_loop))?,
         degrees: DEGREES,
-        first_row: ordinal(cycle.from),
-        last_row: ordinal(cycle.last()),
+        first_row: ordinal(rows.0),
+        last_row: ordinal(rows.1),
     })
 }
 
@@ -220,10 +264,9 @@ pub(crate) fn located_of<A: Allocator + Copy>(
             lack: None,
         });
     };
-    match part_of(source, known, line, both, is_evolving) {
-        Ok((range, cycle)) => {
-            let fault_loop = loop_of(known.fault);
-            let place = members_of(alloc, line.length, fault_loop, range, cycle)?;
+    match found_of(source, known, line, both, is_evolving) {
+        Ok((range, rows)) => {
+            let place = members_of(alloc, line.length, known, range, rows)?;
             Ok(Located {
                 place: Some(place),
                 lack: None,

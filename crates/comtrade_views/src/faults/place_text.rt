@@ -18,7 +18,10 @@ pub(crate) fn put_place_cell(
     place: Option<&PlaceMembers>,
 ) -> Result<(), AllocError> {
     match place {
-        Some(place) => put_range(out, place.least_km, place.greatest_km, 2),
+        Some(place) => {
+            put_range(out, place.least_km, place.greatest_km, 2)?;
+            put(out, if place.doubtful { "?" } else { "" })
+        }
         None => put(out, "-"),
     }
 }
@@ -38,6 +41,7 @@ fn put_where(out: &mut Vec<u8>, place: &PlaceMembers) -> Result<(), AllocError> 
 fn put_method(out: &mut Vec<u8>, place: &PlaceMembers) -> Result<(), AllocError> {
     put(out, "           loop ")?;
     put(out, place.fault_loop.as_str())?;
+    put(out, if place.doubtful { ", doubtful" } else { "" })?;
     put(out, ", method of ")?;
     put(out, place.method.as_str())?;
     put(out, ", likely ")?;
@@ -49,7 +53,7 @@ fn put_method(out: &mut Vec<u8>, place: &PlaceMembers) -> Result<(), AllocError>
 
 /// What it rests on.
 fn put_grounds(out: &mut Vec<u8>, place: &PlaceMembers) -> Result<(), AllocError> {
-    put(out, "rests on   the cycle of rows ")?;
+    put(out, "rests on   rows ")?;
     put_number(out, place.first_row)?;
     put(out, " to ")?;
     put_number(out, place.last_row)?;
