@@ -1,5 +1,5 @@
 -- Parts of a line in which a fault is, by what one end measures; and why there are none.
-use Rattle.std.specs.Prelude.{Bool, true, false, not, ◌&&◌, ◌||◌, Option, Some, None, Result, Ok, Err, if◌then◌else◌}
+use Rattle.std.specs.Prelude.{Bool, not, Option, Some, None, Result, Ok, Err, if◌then◌else◌}
 use Rattle.std.specs.Float.{Float, binary64, float_zero}
 use lib.Ieee.{add, sub, lt}
 use Rattle.comtrade_analysis.specs.Phasors.{times, mirrored, across}

@@ -49,11 +49,13 @@ pub enum Unplaced {
 /// What a cycle with noise and a dc part leaves open.
 const MARGIN: f64 = 0.01;
 
-/// The least end of a range and the greatest begin, and how wide it is at most.
+/// Where a range ends at least.
 const NEAREST: f64 = -0.05;
 
+/// Where it begins at most.
 const FARTHEST: f64 = 1.05;
 
+/// How wide it is at most.
 const WIDEST: f64 = 1.0;
 
 fn lower(one: f64, other: f64) -> f64

@@ -168,16 +168,37 @@ fn part_of<A: Allocator + Copy>(
     cycled: Cycled<'_, A>,
 ) -> Result<Range, Lack> {
     let seen = seen_of(source, known, line, cycled)?;
-    if is_distorted(cycled.fault.1, known.found.place.currents) {
-        return Err(Lack::Distorted);
-    }
     let turn = Phasor::unit(DEGREES / 360.0 * TAU);
     let range = range_of(line.line, loop_of(known.fault), seen, turn)?;
     Ok(range)
 }
 
-/// The parts by the last cycle of a fault and the one half a cycle earlier, if it is there; the first
-/// row of both, and the last one.
+/// The same by the cycle half a cycle before the last one, and its first row; None where there is
+/// none, or a current is distorted in it.
+fn earlier_part<A: Allocator + Copy>(
+    source: &Source<'_, A>,
+    known: &Known,
+    line: &LineData,
+    both: &Both<A>,
+    before: Window,
+) -> Result<Option<(Range, usize)>, Lack> {
+    let Some(earlier) = both.cycles.earlier else {
+        return Ok(None);
+    };
+    let measures = measured_over(source.lists, source.file, Some(earlier))?;
+    if is_distorted(&measures, known.found.place.currents) {
+        return Ok(None);
+    }
+    let cycled = Cycled {
+        before: (before, &both.before),
+        fault: (earlier, &measures),
+    };
+    let range = part_of(source, known, line, cycled)?;
+    Ok(Some((range, earlier.from)))
+}
+
+/// The parts by the last cycle of a fault and the earlier one; the first row of both, and the last
+/// one.
 fn parts_of<A: Allocator + Copy>(
     source: &Source<'_, A>,
     known: &Known,
@@ -192,16 +213,13 @@ fn parts_of<A: Allocator + Copy>(
         fault: (last, &both.fault),
     };
     let range = part_of(source, known, line, cycled)?;
-    let Some(earlier) = both.cycles.earlier else {
-        return Ok((range, (last.from, last.last())));
-    };
-    let measures = measured_over(source.lists, source.file, Some(earlier))?;
-    let cycled = Cycled {
-        before: (before, &both.before),
-        fault: (earlier, &measures),
-    };
-    let other = part_of(source, known, line, cycled)?;
-    Ok((range.joined(other), (earlier.from, last.last())))
+    if is_distorted(&both.fault, known.found.place.currents) {
+        return Err(Lack::Distorted);
+    }
+    Ok(match earlier_part(source, known, line, both, before)? {
+        Some((other, first)) => (range.joined(other), (first, last.last())),
+        None => (range, (last.from, last.last())),
+    })
 }
 
 /// The parts of the line in which a fault is, if the fault has one loop.
