@@ -35,7 +35,8 @@ fn factor_at<A: Allocator + Copy>(
     place: usize,
     given: Option<f64>,
 ) -> Result<f64, Lack> {
-    let Some(channel) = source.file.head.analog.items().get(place) else {
+    let file = source.file;
+    let Some(channel) = file.head.analog.items().get(place) else {
         return Err(Lack::Missing);
     };
     let primary = nearest_f64(source.lists, channel.primary)?;
@@ -116,7 +117,8 @@ fn turn_between<A: Allocator + Copy>(
     let Some(nanos) = last.checked_sub(first) else {
         return Err(Lack::Cycle);
     };
-    let frequency = nearest_f64(source.lists, source.file.head.line_freq)?;
+    let file = source.file;
+    let frequency = nearest_f64(source.lists, file.head.line_freq)?;
     let cycles = nearest_i64_to_f64(nanos) * 1e-9 * frequency;
     Ok(Phasor::unit(cycles * TAU))
 }
