@@ -52,7 +52,9 @@ pub(crate) fn lack_words(lack: Lack) -> &'static str {
             "primary values are not known: a unit is not V, kV, A or kA, or a secondary channel has \
                 no ratio"
         }
-        Lack::Distorted => "a current is distorted by over 5 %: its transformer may be saturated",
+        Lack::Distorted => {
+            "a current is distorted by over 5 %: a transformer saturates, or the fault changes"
+        }
         Lack::Unplaced(unplaced) => unplaced_words(unplaced),
     }
 }

@@ -176,7 +176,7 @@ fn part_of<A: Allocator + Copy>(
 }
 
 /// The same by the cycle half a cycle before the last one, and its first row; None where there is
-/// none, or a current is distorted in it.
+/// none.
 fn earlier_part<A: Allocator + Copy>(
     source: &Source<'_, A>,
     known: &Known,
@@ -189,7 +189,7 @@ fn earlier_part<A: Allocator + Copy>(
     };
     let measures = measured_over(source.lists, source.file, Some(earlier))?;
     if is_distorted(&measures, known.found.place.currents) {
-        return Ok(None);
+        return Err(Lack::Distorted);
     }
     let cycled = Cycled {
         before: (before, &both.before),
