@@ -11,12 +11,21 @@ bench=$PWD/../bench
 cd "$folder"
 python3 "$bench/fault_lines" judge "$comtrade" metal
 python3 "$bench/fault_lines" judge "$comtrade" arc
-"$comtrade" fault --line metal/p001.toml metal/p001
-"$comtrade" fault --long --line metal/p001.toml metal/p001
+"$comtrade" fault --line metal/p002.toml metal/p002 storm/storm11
+"$comtrade" fault --long --line metal/p002.toml metal/p002
 "$comtrade" fault --long --line metal/p005.toml metal/p005 | grep -A 2 '^place'
-"$comtrade" fault --line metal/p001.toml storm
+"$comtrade" fault --json --line metal/p005.toml metal/p005 | grep -o '"place":{[^}]*}' | tr , '\n' | cut -c 1-20
+# of the secondary side, without a ratio and with the ratios of the line's file
+sed 's/,[0-9]*,[0-9]*,P\r$/,1,1,S\r/' storm/storm12.cfg > second.cfg
+cp storm/storm12.dat second.dat
+line='length = 12\nr1 = 1.2\nx1 = 4.2\nr0 = 3.6\nx0 = 12.6\n'
+printf "$line" > own.toml
+printf "${line}voltage_ratio = 1\ncurrent_ratio = 1\n" > given.toml
+for line in own given; do
+    "$comtrade" fault --long --line $line.toml second | grep -A 2 '^place'
+done
 told() {
-    "$comtrade" fault --line "$1" metal/p001
+    "$comtrade" fault --line "$1" metal/p002
     echo "status $?"
 }
 said() {
