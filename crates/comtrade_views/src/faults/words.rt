@@ -1,5 +1,6 @@
 //! The words for fault types, causes and doubts.
 
+use comtrade_distance::Loop;
 use comtrade_fault::{Cause, Doubts, Evidence, FaultType};
 
 /// The name of a fault type.
@@ -88,4 +89,26 @@ pub(crate) fn level_words(evidence: Evidence) -> &'static str {
 /// Whether anything is doubtful.
 pub(crate) fn has_doubt(doubts: Doubts) -> bool {
     doubts.ratio || doubts.voltages || doubts.level || doubts.missing
+}
+
+/// The name of a loop: its phases, and E for earth.
+pub(crate) fn loop_name(fault_loop: Loop) -> &'static str {
+    match fault_loop {
+        Loop::A => "A-E",
+        Loop::B => "B-E",
+        Loop::C => "C-E",
+        Loop::AB => "A-B",
+        Loop::BC => "B-C",
+        Loop::CA => "C-A",
+    }
+}
+
+/// What the current through the fault is compared with.
+pub(crate) fn reference_words(fault_loop: Loop) -> &'static str {
+    match fault_loop {
+        Loop::A | Loop::B | Loop::C => "the sum of the currents",
+        Loop::AB => "the change of A - B",
+        Loop::BC => "the change of B - C",
+        Loop::CA => "the change of C - A",
+    }
 }
