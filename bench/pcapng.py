@@ -260,7 +260,7 @@ class Reader:
         except Short:
             return self.out, "true"
         except Wrong as it:
-            return self.out, f"the capture is damaged: byte {it.args[0]}: {TEXTS[it.args[1]]}"
+            return self.out, f"the capture is damaged at byte {it.args[0]}: {TEXTS[it.args[1]]}"
         return self.out, "false"
 
 

@@ -28,7 +28,7 @@ pub enum TranslateFault {
     #[error("out of memory")]
     Memory,
     /// The bytes from this one on are not what the form wants.
-    #[error("the capture is damaged: byte {0}: {1}")]
+    #[error("the capture is damaged at byte {0}: {1}")]
     Damaged(u64, Flaw),
     /// The capture would have 2^63 bytes or more.
     #[error("the capture has 2^63 bytes or more")]
