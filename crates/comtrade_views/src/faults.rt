@@ -7,6 +7,7 @@ mod fault;
 mod known;
 mod lack;
 mod members;
+mod missing;
 mod none;
 mod of_record;
 mod parts;

@@ -149,7 +149,7 @@ fn put_ends(out: &mut Vec<u8>, fault: &FaultMembers) -> Result<(), AllocError> {
 fn put_clearing(out: &mut Vec<u8>, fault: &FaultMembers) -> Result<(), AllocError> {
     put(out, "cleared    ")?;
     if fault.cleared_row.is_none() {
-        return put(out, "not within the record\n");
+        return put(out, "not found in the currents\n");
     }
     put_millis_of(out, fault.cleared_ms)?;
     put(out, " since the trigger")?;

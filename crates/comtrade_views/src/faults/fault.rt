@@ -10,7 +10,7 @@ use crate::faults::phasors::phasors_of;
 use crate::faults::place::located_of;
 use crate::faults::signs::signs_of;
 use crate::faults::words::{
-    EVOLVES, MISSING, RATIO, VOLTAGES, level_words, phases_of, type_name, type_words,
+    EVOLVES, MISSING, OLDER, RATIO, VOLTAGES, level_words, phases_of, type_name, type_words,
 };
 use crate::instant::put_instant;
 use crate::json::text_of;
@@ -57,6 +57,9 @@ fn doubts_of(
     }
     if doubts.voltages {
         list.push(String::from_str(alloc, VOLTAGES)?)?;
+    }
+    if disturbance.may_be_older {
+        list.push(String::from_str(alloc, OLDER)?)?;
     }
     if doubts.missing {
         list.push(String::from_str(alloc, MISSING)?)?;

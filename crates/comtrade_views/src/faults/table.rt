@@ -88,7 +88,7 @@ fn put_remarks(table: &mut Vec<u8>, fault: &FaultMembers) -> Result<(), AllocErr
     between = if fault.doubts.is_empty() { "" } else { "; " };
     if fault.cleared_row.is_none() {
         put(table, between)?;
-        put(table, "it lasts to the end of the record")?;
+        put(table, "no clearing is found in the currents")?;
         between = "; ";
     }
     if let Some(reason) = fault.no_place.as_ref() {

@@ -54,7 +54,9 @@ pub(crate) fn phases_of(fault: FaultType) -> (bool, bool, bool) {
 pub(crate) fn cause_words(cause: Cause) -> &'static str {
     match cause {
         Cause::Inrush => "inrush: a quarter of the current or more is second harmonic",
-        Cause::Drop => "load falls, or poles open: no current rises",
+        Cause::Drop => {
+            "load falls, poles open, or a fault ends whose inception is not seen: no current rises"
+        },
         Cause::Load => "load rises: the voltages do not dip as in a fault",
     }
 }
@@ -67,6 +69,10 @@ pub(crate) const VOLTAGES: &str = "the voltages look like another type than the 
 
 /// That a phase takes part later which does not at first.
 pub(crate) const EVOLVES: &str = "another phase carries fault current later: the fault evolves";
+
+/// That it may have begun before.
+pub(crate) const OLDER: &str =
+    "it may have begun before the first row that is examined, and last longer";
 
 /// That samples are missing.
 pub(crate) const MISSING: &str = "samples are missing around the inception";
