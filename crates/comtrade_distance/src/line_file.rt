@@ -1,6 +1,6 @@
 //! The file of a line: its length, its impedances and the ratios of the transformers, as TOML.
 
-ghost use Rattle.std.specs.Prelude.{◌≡◌};
+ghost use Rattle.std.specs.Prelude.{◌≡◌, IfOk, Some};
 ghost use Rattle.toml.specs.View.{view};
 ghost use Rattle.comtrade_distance.specs.LineFiles as spec;
 
@@ -77,7 +77,8 @@ fn checked(key: &'static str, number: f64) -> Result<f64, LineFault>
 
 /// The number at a key.
 fn number_at(document: &Value, key: &'static str) -> Result<f64, LineFault>
-    ensures { result ≡ spec.number_at key.entry (view document.now) }
+    ensures value { result ≡ spec.number_at key.entry (view document.now) }
+    ensures told { IfOk result (λ x. spec.number_in key.entry.now (view document.now) ≡ Some x) }
 {
     match document.get(key) {
         None => Err(LineFault::Missing(key)),
@@ -100,12 +101,16 @@ fn sized(key: &'static str, number: f64) -> Result<f64, LineFault>
 }
 
 /// The length or the reactance at a key.
-fn size_at(document: &Value, key: &'static str) -> Result<f64, LineFault> {
+fn size_at(document: &Value, key: &'static str) -> Result<f64, LineFault>
+    ensures { IfOk result (λ x. spec.number_in key.entry.now (view document.now) ≡ Some x) }
+{
     sized(key, number_at(document, key)?)
 }
 
 /// The ratio at a key, if it is there.
-fn ratio_at(document: &Value, key: &'static str) -> Result<Option<f64>, LineFault> {
+fn ratio_at(document: &Value, key: &'static str) -> Result<Option<f64>, LineFault>
+    ensures { IfOk result (spec.IsRatioAt key.entry.now (view document.now)) }
+{
     match document.get(key) {
         None => Ok(None),
         Some(_) => Ok(Some(size_at(document, key)?)),
@@ -117,7 +122,10 @@ fn impedance_at(
     document: &Value,
     resistance: &'static str,
     reactance: &'static str,
-) -> Result<Phasor, LineFault> {
+) -> Result<Phasor, LineFault>
+    ensures re { IfOk result (λ z. spec.number_in resistance.entry.now (view document.now) ≡ Some z.re) }
+    ensures im { IfOk result (λ z. spec.number_in reactance.entry.now (view document.now) ≡ Some z.im) }
+{
     Ok(Phasor {
         re: number_at(document, resistance)?,
         im: size_at(document, reactance)?,
@@ -125,7 +133,9 @@ fn impedance_at(
 }
 
 /// The line that a table tells.
-fn line_in(document: &Value) -> Result<LineData, LineFault> {
+fn line_in(document: &Value) -> Result<LineData, LineFault>
+    ensures { IfOk result (spec.Tells (view document.now)) }
+{
     Ok(LineData {
         line: Line {
             positive: impedance_at(document, "r1", "x1")?,
@@ -143,7 +153,9 @@ fn keys_of(line: &LineData) -> usize {
 }
 
 /// The line that a file tells.
-pub fn line_of(alloc: Global, text: &str) -> Result<LineData, LineFault> {
+pub fn line_of(alloc: Global, text: &str) -> Result<LineData, LineFault>
+    ensures { IfOk result (spec.IsTold text.entry.now) }
+{
     let table = match table_from_str(alloc, text) {
         Ok(table) => table,
         Err(error) if error.is_memory() => return Err(LineFault::Memory),
