@@ -30,4 +30,3 @@ names() { sed -n 's/^.*\(storm\/[^ ]*\) *$/\1/p; /pairs,/p'; }
 cp storm/a.dat storm/d.dat
 "$comtrade" list storm/d.* | names
 "$comtrade" list storm/none.cfg storm/none.dat
-echo "status $?"
