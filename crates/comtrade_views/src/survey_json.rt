@@ -24,11 +24,10 @@ struct EventMembers {
     what: String,
 }
 
-/// The events of records, and records that cannot be read.
+/// The events of records.
 #[derive(Drop, Serialize)]
 struct EventLists {
     events: Vec<EventMembers>,
-    faults: Vec<FaultMembers>,
 }
 
 /// The numbers of channels.
@@ -113,28 +112,12 @@ fn event_members(
     })
 }
 
-/// The errors of the records that cannot be read, with their names.
-fn fault_members(alloc: Global, records: &[Summary]) -> Result<Vec<FaultMembers>, AllocError> {
-    let mut faults = Vec::new(alloc);
-    for record in records {
-        if record.facts.is_none() {
-            faults.push(FaultMembers {
-                record: text_of(alloc, &record.name)?,
-                fault: text_of(alloc, record.fault.trim_ascii_end())?,
-            })?;
-        }
-    }
-    Ok(faults)
-}
-
-/// The events of the records with these names, and the errors of those that cannot be read, as a JSON
-/// object.
+/// The events of the records with these names, as a JSON object.
 pub fn put_events_json(
     alloc: Global,
     out: &mut Vec<u8>,
     events: &[Event],
     names: &[String],
-    records: &[Summary],
 ) -> Result<(), ToolFault> {
     let mut list = Vec::new(alloc);
     let mut before = None;
@@ -142,11 +125,7 @@ pub fn put_events_json(
         list.push(event_members(alloc, event, before, names)?)?;
         before = event.at.or(before);
     }
-    let lists = EventLists {
-        events: list,
-        faults: fault_members(alloc, records)?,
-    };
-    put_json(alloc, out, &lists)?;
+    put_json(alloc, out, &EventLists { events: list })?;
     Ok(())
 }
 
@@ -205,13 +184,17 @@ pub fn put_summaries_json(
 ) -> Result<(), ToolFault> {
     let mut lists = RecordLists {
         records: Vec::new(alloc),
-        faults: fault_members(alloc, records)?,
+        faults: Vec::new(alloc),
     };
     for record in records {
-        if let Some(facts) = &record.facts {
-            lists
+        match &record.facts {
+            Some(facts) => lists
                 .records
-                .push(record_members(alloc, facts, &record.name)?)?;
+                .push(record_members(alloc, facts, &record.name)?)?,
+            None => lists.faults.push(FaultMembers {
+                record: text_of(alloc, &record.name)?,
+                fault: text_of(alloc, record.fault.trim_ascii_end())?,
+            })?,
         }
     }
     put_json(alloc, out, &lists)?;
