@@ -19,7 +19,6 @@ mod fault;
 mod find;
 mod folder;
 mod import;
-mod line;
 mod load;
 mod measure;
 mod one;

@@ -20,8 +20,6 @@ use std::alloc::Allocator;
 pub struct Disturbance {
     /// The first row in which a current departs from its waveform.
     pub inception: usize,
-    /// This is the first row that was examined: it may have begun before.
-    pub may_be_older: bool,
     pub kind: Kind,
     pub doubts: Doubts,
     /// What the kind was decided by.
@@ -105,7 +103,7 @@ fn end_in(kind: Kind, ends: Ends) -> Option<usize>
     }
 }
 
-/// The disturbance that begins at a row, looked for from another one on.
+/// The disturbance that begins at a row.
 #[tactic(auto, unfolding(crate::specs::Courses::disturbance_at))]
 fn disturbance_at(
     scans: &[Scan],
@@ -114,7 +112,6 @@ fn disturbance_at(
     voltage_weights: Weights,
     bounds: Bounds,
     cycle: usize,
-    from: usize,
     row: usize,
 ) -> Disturbance
     requires within { row + cycle ≤ length scans.now }
@@ -122,14 +119,13 @@ fn disturbance_at(
     requires some { 8 ≤ cycle }
     requires few { cycle ≤ 2 ^ 20 }
     requires step { bounds.step ≤ 2 ^ 64 }
-    ensures value { result ≡ spec.disturbance_at (course scans.now weights) (course voltages.now voltage_weights) bounds cycle from row }
+    ensures value { result ≡ spec.disturbance_at (course scans.now weights) (course voltages.now voltage_weights) bounds cycle row }
 {
     let evidence = evidence_at(scans, weights, voltages, voltage_weights, cycle, row);
     let kind = evidence.kind();
     let ends = ends_after(scans, weights, bounds, cycle, row);
     Disturbance {
         inception: row,
-        may_be_older: from == row,
         kind,
         doubts: evidence.doubts(),
         evidence,
@@ -167,7 +163,6 @@ fn next_from(
         voltage_weights,
         bounds,
         cycle,
-        from,
         inception,
     ))
 }

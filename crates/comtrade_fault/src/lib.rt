@@ -4,7 +4,6 @@
 
 mod bounds;
 mod departure;
-mod dips;
 mod disturbance;
 mod ends;
 mod form;

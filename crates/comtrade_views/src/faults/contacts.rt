@@ -25,14 +25,9 @@ pub(crate) struct Told {
     pub(crate) row: usize,
 }
 
-/// What a change to this state tells of a channel with such a role. A command is given where the
-/// state is not the normal one.
-fn sign_of(role: Role, closed: bool, normal: bool) -> Option<Sign> {
-    let state = match role {
-        Role::Start | Role::Trip | Role::Reclose => closed != normal,
-        Role::Open | Role::Closed => closed,
-    };
-    match (role, state) {
+/// What a change to this state tells of a channel with such a role.
+fn sign_of(role: Role, closed: bool) -> Option<Sign> {
+    match (role, closed) {
         (Role::Start, true) => Some(Sign::Start),
         (Role::Trip, true) => Some(Sign::Trip),
         (Role::Open, true) | (Role::Closed, false) => Some(Sign::Opened),
@@ -44,7 +39,7 @@ fn sign_of(role: Role, closed: bool, normal: bool) -> Option<Sign> {
 /// What an event tells, by the name of its channel.
 fn told_by<A: Allocator>(file: &File<A>, event: Event) -> Option<Told> {
     let channel = file.head.status.items().get(event.channel)?;
-    let sign = sign_of(role_of(channel.id.items())?, event.closed, channel.normal)?;
+    let sign = sign_of(role_of(channel.id.items())?, event.closed)?;
     Some(Told {
         sign,
         channel: event.channel,

@@ -11,7 +11,6 @@ use crate::instant::put_instant;
 use crate::json::text_of;
 use crate::number::ordinal;
 use crate::times::{time_at, times_since_trigger};
-use comtrade_distance::LineData;
 use comtrade_fault::{Found, Kind, disturbances_of};
 use comtrade_format::File;
 use comtrade_io::ToolFault;
@@ -114,13 +113,12 @@ pub fn first_fault_of<A: Allocator + Copy>(
     })
 }
 
-/// The faults of a record of this name, and where they are on a line, if one is given.
+/// The faults of a record of this name.
 pub fn faults_of<A: Allocator + Copy>(
     alloc: Global,
     lists: A,
     file: &File<A>,
     name: &[u8],
-    line: Option<&LineData>,
 ) -> Result<RecordFaults, ToolFault> {
     let times = times_since_trigger(lists, file)?;
     let told = told_in(lists, file)?;
@@ -130,7 +128,6 @@ pub fn faults_of<A: Allocator + Copy>(
         file,
         times: &times,
         told: &told,
-        line,
     };
     let mut all = disturbances_of(lists, file)?;
     all.sort_by_key(|found| inception_of(found))?;

@@ -1,5 +1,0 @@
-pub mod LineFiles
-pub mod Loops
-pub mod Places
-pub mod Primary
-pub mod Ranges
