@@ -58,8 +58,8 @@ _comtrade() {
         more=records
         ;;
     fault)
-        flags='-r --recursive --long --json --encoding -o --output -h --help'
-        valued='--encoding --output'
+        flags='-r --recursive --long --line --json --encoding -o --output -h --help'
+        valued='--line --encoding --output'
         places=(records)
         more=records
         ;;
@@ -124,6 +124,7 @@ _comtrade() {
         --encoding) word='utf-8 utf-16 latin1 windows-1251 windows-1252 cp437 cp850 cp866 gbk shift_jis' ;;
         --output) return ;;
         --type) word='trigger change gap' ;;
+        --line) return ;;
         --by) word='instant trigger fault' ;;
         --kind) word='ascii binary' ;;
         --dates) word='mdy dmy' ;;

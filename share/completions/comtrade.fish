@@ -16,7 +16,7 @@ function __comtrade_at
     set -e words[1..2]
     set -l place 0
     while set -q words[1]
-        if contains -- $words[1] --from --to --channels --encoding --output --separator --decimal --width --height --station --min-current --type --by --shift --map --at --reference --frequency --phases --kind --dates --refuse
+        if contains -- $words[1] --from --to --channels --encoding --output --separator --decimal --width --height --station --min-current --type --line --by --shift --map --at --reference --frequency --phases --kind --dates --refuse
             set -e words[1]
         else if not string match -q -- '-*' $words[1]
             set place (math $place + 1)
@@ -81,6 +81,7 @@ complete -c comtrade -n '__comtrade_has list' -l min-current -x -d 'Only records
 complete -c comtrade -n '__comtrade_has events' -l type -x -a 'trigger change gap' -d 'Only these, joined by commas'
 complete -c comtrade -n '__comtrade_has events' -l csv -d 'Print comma-separated values'
 complete -c comtrade -n '__comtrade_has fault' -l long -d 'Print a block for each fault: phasors, contacts, and what each conclusion rests on'
+complete -c comtrade -n '__comtrade_has fault' -l line -r -F -d 'Locate the faults on the line of FILE (TOML: length, r1, x1, r0, x0)'
 complete -c comtrade -n '__comtrade_has compare' -l by -x -a 'instant trigger fault' -d 'Align by instant (default), trigger or fault'
 complete -c comtrade -n '__comtrade_has compare' -l shift -x -d 'Move B by so many milliseconds'
 complete -c comtrade -n '__comtrade_has compare' -l map -x -d 'Channels of A and the channels of B that belong to them, as UA=VA,IA=IL1'

@@ -59,3 +59,5 @@ refused 'no words' /dev/null
 refused 'wrong words' /dev/null shows $first
 refused 'standard input twice' /dev/null show - -
 refused 'no file' /dev/null show files/none.cfg files/first.dat
+refused 'a line' /dev/null fault --line ../examples/storm/line.toml "$folder/made"
+refused 'no line' /dev/null fault --line files/first.cfg "$folder/made"

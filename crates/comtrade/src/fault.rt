@@ -2,6 +2,7 @@
 
 use crate::content::{NO_ENCODING, Reading, encoding_of, file_spelled};
 use crate::folder::{Pairs, pairs_of};
+use crate::line::line_named;
 use crate::load::{Inputs, read_record};
 use crate::output::put_out;
 use crate::survey::{NOT_UTF8, say_repairs};
@@ -9,6 +10,7 @@ use crate::zones::to_zone_of;
 use crate::{complain, say};
 use bumpalo::Bump;
 use comtrade_diagnostics::Zone;
+use comtrade_distance::LineData;
 use comtrade_io::{Diagnosed, Names, ToolFault};
 use comtrade_values::put;
 use comtrade_views::{Faults, faults_of, put_fault_blocks, put_fault_lines, put_faults_json};
@@ -18,10 +20,17 @@ use std::rt::Files;
 /// Why a record is not among those that were read; what it is stands on standard error.
 pub(crate) const UNREAD: &[u8] = b"its files cannot be read";
 
+/// How records are read, and the line on which their faults are located, if one is given.
+#[derive(Clone, Copy)]
+struct Taken<'a> {
+    encoding: Option<&'a str>,
+    line: Option<&'a LineData>,
+}
+
 /// Adds a record whose files were read. Its lists are released in one step.
 fn add_inputs<R: AllocGlobal + Eprint>(
     rt: &R,
-    encoding: Option<&str>,
+    taken: Taken<'_>,
     zone: &mut Option<Zone>,
     faults: &mut Faults,
     inputs: &Inputs,
@@ -29,12 +38,18 @@ fn add_inputs<R: AllocGlobal + Eprint>(
 ) -> Result<(), ToolFault> {
     let lists = Bump::new(rt.alloc());
     let mut said = Vec::new(&lists);
-    match file_spelled(&lists, inputs, Reading::to_list(encoding, false), &mut said)? {
+    match file_spelled(
+        &lists,
+        inputs,
+        Reading::to_list(taken.encoding, false),
+        &mut said,
+    )? {
         Some(mut loaded) => {
             to_zone_of(zone, &mut loaded, &mut said)?;
             say_repairs(rt, name, &said)?;
             let alloc = rt.alloc();
-            faults.add(faults_of(alloc, &lists, &loaded.file, name.as_bytes())?)?;
+            let name = name.as_bytes();
+            faults.add(faults_of(alloc, &lists, &loaded.file, name, taken.line)?)?;
         }
         None => {
             say(rt, &said);
@@ -47,7 +62,7 @@ fn add_inputs<R: AllocGlobal + Eprint>(
 /// Adds the records, one after the other.
 fn add_pairs<R: Files + Input + Eprint + AllocGlobal + Clone + Drop>(
     rt: &R,
-    encoding: Option<&str>,
+    taken: Taken<'_>,
     faults: &mut Faults,
     pairs: &[String],
 ) -> Result<(), ToolFault> {
@@ -58,7 +73,7 @@ fn add_pairs<R: Files + Input + Eprint + AllocGlobal + Clone + Drop>(
             dat: None,
         };
         match read_record(rt, name, false) {
-            Some(inputs) => add_inputs(rt, encoding, &mut zone, faults, &inputs, pair.as_str())?,
+            Some(inputs) => add_inputs(rt, taken, &mut zone, faults, &inputs, pair.as_str())?,
             None => faults.add_unread(rt.alloc(), pair.as_str().as_bytes(), UNREAD)?,
         }
     }
@@ -97,14 +112,31 @@ fn text_of(alloc: Global, asked: &Diagnosed<'_>, faults: &Faults) -> Result<Vec<
 fn diagnosed<R: Files + Input + Eprint + AllocGlobal + Clone + Drop>(
     rt: &R,
     asked: &Diagnosed<'_>,
+    line: Option<&LineData>,
     pairs: &Pairs,
 ) -> Result<(Vec<u8>, bool), ToolFault> {
     let mut faults = Faults::new(rt.alloc());
     add_odd(rt, &mut faults, &pairs.odd)?;
-    add_pairs(rt, asked.encoding, &mut faults, &pairs.names)?;
+    let encoding = asked.encoding;
+    let taken = Taken { encoding, line };
+    add_pairs(rt, taken, &mut faults, &pairs.names)?;
     faults.sort()?;
     let is_sound = faults.is_sound() && pairs.is_whole;
     Ok((text_of(rt.alloc(), asked, &faults)?, is_sound))
+}
+
+/// The line that is named, if one is; `Err` if its file tells none, and why is printed.
+fn line_asked<R: Files + Input + Eprint + AllocGlobal>(
+    rt: &R,
+    asked: &Diagnosed<'_>,
+) -> Result<Option<LineData>, ()> {
+    match asked.line {
+        Some(name) => match line_named(rt, name) {
+            Some(line) => Ok(Some(line)),
+            None => Err(()),
+        },
+        None => Ok(None),
+    }
 }
 
 /// Prints the faults of the named records. The status is 1 if one cannot be read.
@@ -116,10 +148,13 @@ pub(crate) fn run_fault<R: Files + Input + Print + Eprint + AllocGlobal + Clone 
         say(rt, NO_ENCODING.as_bytes());
         return 1;
     }
+    let Ok(line) = line_asked(rt, asked) else {
+        return 1;
+    };
     let Ok(pairs) = pairs_of(rt, &asked.names, asked.recursive) else {
         return 1;
     };
-    match diagnosed(rt, asked, &pairs) {
+    match diagnosed(rt, asked, line.as_ref(), &pairs) {
         Ok((text, is_sound)) => {
             let status = put_out(rt, asked.output, &text);
             if is_sound { status } else { 1 }

@@ -19,6 +19,7 @@ mod fault;
 mod find;
 mod folder;
 mod import;
+mod line;
 mod load;
 mod measure;
 mod one;

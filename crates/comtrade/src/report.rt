@@ -123,7 +123,7 @@ fn add_file(
     add_events(alloc, &mut found.events, file, place)?;
     found
         .faults
-        .add(faults_of(alloc, alloc, file, name.as_bytes())?)?;
+        .add(faults_of(alloc, alloc, file, name.as_bytes(), None)?)?;
     add_pictures(alloc, found, file, name)
 }
 

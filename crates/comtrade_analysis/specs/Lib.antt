@@ -9,6 +9,7 @@ pub mod MeanSquares
 pub mod Roots
 pub mod ValueExtremes
 pub mod Phases
+pub mod Phasors
 pub mod Sequences
 pub mod Surveys
 pub mod Outages

@@ -1,5 +1,5 @@
 -- The disturbances of three currents, one after the other.
-use Rattle.std.specs.Prelude.{ℕ, zero, suc, ◌+◌, ◌-◌, ◌*◌, Bool, nat_lt, if◌then◌else◌, List, [], ◌∷◌, length, take, drop, option_and_then, Option, Some, None}
+use Rattle.std.specs.Prelude.{ℕ, zero, suc, ◌+◌, ◌-◌, ◌*◌, ◌==◌, Bool, nat_lt, if◌then◌else◌, List, [], ◌∷◌, length, take, drop, option_and_then, Option, Some, None}
 use Rattle.std.specs.List.{list_all}
 use Rattle.comtrade_fault.specs.Sizing.{sizes_around, phases, size_from, second_from, most_of}
 use Rattle.comtrade_fault.specs.Bounding.{bounds_of}
@@ -56,20 +56,21 @@ abbrev pub end_in : Kind → Ends → Option ℕ
 end_in (Fault fault) ends = last_end fault ends
 end_in (Other cause) ends = None
 
-unfoldable pub disturbance_at : Course → Course → Bounds → ℕ → ℕ → Disturbance
-disturbance_at i v b cycle row =
+-- that from a row on begins at another one; it may be older where that is the very row
+unfoldable pub disturbance_at : Course → Course → Bounds → ℕ → ℕ → ℕ → Disturbance
+disturbance_at i v b cycle from row =
     let e = evidence_at i v cycle row in
     let ends = ends_after i.scans i.weights b cycle row in
-    record { inception = row; kind = kind e; doubts = doubts e; evidence = e; ends = ends; end = end_in (kind e) ends }
+    record { inception = row; may_be_older = from == row; kind = kind e; doubts = doubts e; evidence = e; ends = ends; end = end_in (kind e) ends }
 
 -- that of a row, where a cycle follows
-abbrev pub if_whole : Course → Course → Bounds → ℕ → ℕ → Option Disturbance
-if_whole i v b cycle row = if nat_lt (length i.scans) (row + cycle) then None else Some (disturbance_at i v b cycle row)
+abbrev pub if_whole : Course → Course → Bounds → ℕ → ℕ → ℕ → Option Disturbance
+if_whole i v b cycle from row = if nat_lt (length i.scans) (row + cycle) then None else Some (disturbance_at i v b cycle from row)
 
 -- the first disturbance from a row on: the inception of the first departure
 unfoldable pub next_from : Course → Course → Bounds → ℕ → ℕ → Option Disturbance
 next_from i v b cycle from =
-    option_and_then (λ row. if_whole i v b cycle (inception i.scans i.weights b.step cycle from row)) (departure_from i.scans i.weights b cycle from)
+    option_and_then (λ row. if_whole i v b cycle from (inception i.scans i.weights b.step cycle from row)) (departure_from i.scans i.weights b cycle from)
 
 -- the row two cycles after another one, where there are so many rows
 abbrev pub two_cycles_after : ℕ → ℕ → ℕ → Option ℕ

@@ -1,5 +1,5 @@
 -- How large the quantities are in the cycles around a row.
-use Rattle.std.specs.Prelude.{ℕ, ◌+◌, ◌-◌, ◌/◌, ◌^◌, ◌≤◌, max, List}
+use Rattle.std.specs.Prelude.{ℕ, ◌+◌, ◌-◌, ◌/◌, ◌^◌, ◌≤◌, max, min, List}
 use Rattle.comtrade_fault.specs.Levels.{sum_over}
 use Rattle.comtrade_fault.specs.declared.scan.Scan.{Scan}
 use Rattle.comtrade_fault.specs.declared.scan.Weights.{Weights}
@@ -49,6 +49,9 @@ sizes_around scans w cycle row = record {
 
 abbrev pub most_of : Phases → ℕ
 most_of p = max (max p.a p.b) p.c
+
+abbrev pub least_of : Phases → ℕ
+least_of p = min (min p.a p.b) p.c
 
 -- sums over at most 2 ^ 20 rows
 abbrev pub limit : ℕ

@@ -20,6 +20,8 @@ use std::alloc::Allocator;
 pub struct Disturbance {
     /// The first row in which a current departs from its waveform.
     pub inception: usize,
+    /// This is the first row that was examined: it may have begun before.
+    pub may_be_older: bool,
     pub kind: Kind,
     pub doubts: Doubts,
     /// What the kind was decided by.
@@ -103,7 +105,7 @@ fn end_in(kind: Kind, ends: Ends) -> Option<usize>
     }
 }
 
-/// The disturbance that begins at a row.
+/// The disturbance that begins at a row, looked for from another one on.
 #[tactic(auto, unfolding(crate::specs::Courses::disturbance_at))]
 fn disturbance_at(
     scans: &[Scan],
@@ -112,6 +114,7 @@ fn disturbance_at(
     voltage_weights: Weights,
     bounds: Bounds,
     cycle: usize,
+    from: usize,
     row: usize,
 ) -> Disturbance
     requires within { row + cycle ≤ length scans.now }
@@ -119,13 +122,14 @@ fn disturbance_at(
     requires some { 8 ≤ cycle }
     requires few { cycle ≤ 2 ^ 20 }
     requires step { bounds.step ≤ 2 ^ 64 }
-    ensures value { result ≡ spec.disturbance_at (course scans.now weights) (course voltages.now voltage_weights) bounds cycle row }
+    ensures value { result ≡ spec.disturbance_at (course scans.now weights) (course voltages.now voltage_weights) bounds cycle from row }
 {
     let evidence = evidence_at(scans, weights, voltages, voltage_weights, cycle, row);
     let kind = evidence.kind();
     let ends = ends_after(scans, weights, bounds, cycle, row);
     Disturbance {
         inception: row,
+        may_be_older: from == row,
         kind,
         doubts: evidence.doubts(),
         evidence,
@@ -163,6 +167,7 @@ fn next_from(
         voltage_weights,
         bounds,
         cycle,
+        from,
         inception,
     ))
 }

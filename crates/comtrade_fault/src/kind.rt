@@ -1,9 +1,10 @@
 //! Whether a disturbance is a fault, and what it is else.
 
 ghost use Rattle.std.specs.Prelude.{◌≡◌, ◌*◌, ◌≤◌};
-ghost use Rattle.comtrade_fault.specs.Sizing.{Fit, AreSmall};
+ghost use Rattle.comtrade_fault.specs.Sizing.{Fit, AreSmall, limit};
 ghost use Rattle.comtrade_fault.specs.Deciding as spec;
 
+use crate::dips::{changes_by, dips, dips_far, dips_near, sags};
 use crate::sizes::{Changes, Phases, Sizes};
 use crate::types::FaultType;
 
@@ -13,7 +14,8 @@ pub enum Cause {
     /// A transformer is energised: a phase rises, and the second harmonic of the greatest current is
     /// a quarter of it or more.
     Inrush,
-    /// No phase rises by more than an eighth: load is lost, or a pole opens.
+    /// No phase rises by more than an eighth: load is lost, a pole opens, or a fault ends whose
+    /// inception is not seen.
     Drop,
     /// Else: load is taken up.
     Load,
@@ -53,60 +55,14 @@ pub struct Evidence {
     pub is_whole: bool,
 }
 
-/// Whether the voltages change by one part in so many of the greatest before, or more.
-fn changes_by(voltages: Sizes, parts: u128) -> bool
-    requires small { Fit voltages }
-    requires few { parts ≤ 64 }
-    ensures { result ≡ spec.changes_by voltages parts }
+/// Whether a phase has at least half of the greatest current before, and an eighth of that or less
+/// after.
+fn is_opened(most: u128, before: u128, after: u128) -> bool
+    requires before { before ≤ limit }
+    requires after { after ≤ limit }
+    ensures { result ≡ spec.is_opened most before after }
 {
-    voltages.before.most() <= parts * voltages.change.phases().most()
-}
-
-/// Whether the greatest voltage falls to so many parts of another number, or lower.
-fn falls_to(voltages: Sizes, parts: u128, of: u128) -> bool
-    requires small { Fit voltages }
-    requires few { parts ≤ 64 }
-    requires whole { of ≤ 64 }
-    ensures { result ≡ spec.falls_to voltages parts of }
-{
-    of * voltages.after.most() <= parts * voltages.before.most()
-}
-
-/// Whether the voltages change as in a fault of this type: of three phases the greatest falls by an
-/// eighth, else one changes by a thirty-second of it.
-fn dips(voltages: Sizes, fault: FaultType) -> bool
-    requires { Fit voltages }
-    ensures { result ≡ spec.dips voltages fault }
-{
-    if fault.is_threefold() {
-        falls_to(voltages, 7, 8)
-    } else {
-        changes_by(voltages, 32)
-    }
-}
-
-/// Whether they change twice as much.
-fn dips_far(voltages: Sizes, fault: FaultType) -> bool
-    requires { Fit voltages }
-    ensures { result ≡ spec.dips_far voltages fault }
-{
-    if fault.is_threefold() {
-        falls_to(voltages, 3, 4)
-    } else {
-        changes_by(voltages, 16)
-    }
-}
-
-/// Whether they change half as much.
-fn dips_near(voltages: Sizes, fault: FaultType) -> bool
-    requires { Fit voltages }
-    ensures { result ≡ spec.dips_near voltages fault }
-{
-    if fault.is_threefold() {
-        falls_to(voltages, 15, 16)
-    } else {
-        changes_by(voltages, 64)
-    }
+    most <= 2 * before && 8 * after <= before
 }
 
 /// What the phase with the greatest current has of these.
@@ -166,6 +122,32 @@ impl Evidence {
         8 * after.a <= 9 * before.a && 8 * after.b <= 9 * before.b && 8 * after.c <= 9 * before.c
     }
 
+    /// Whether a pole opens.
+    #[tactic(auto, unfolding(crate::specs::Deciding::opens))]
+    fn opens(self) -> bool
+        requires { spec.IsSmall self }
+        ensures { result ≡ spec.opens self }
+    {
+        let before = self.currents.before;
+        let after = self.currents.after;
+        let most = before.most();
+        is_opened(most, before.a, after.a)
+            || is_opened(most, before.b, after.b)
+            || is_opened(most, before.c, after.c)
+    }
+
+    /// Whether no current rises, and a pole opens or the least voltage does not fall by one part in
+    /// so many.
+    #[tactic(auto, unfolding(crate::specs::Deciding::subsides))]
+    fn subsides(self, voltages: Sizes, parts: u128) -> bool
+        requires small { spec.IsSmall self }
+        requires fit { Fit voltages }
+        requires few { parts ≤ 64 }
+        ensures { result ≡ spec.subsides self voltages parts }
+    {
+        self.drops() && (self.opens() || !sags(voltages, parts))
+    }
+
     /// What it is if it is no fault.
     #[tactic(auto, unfolding(crate::specs::Deciding::cause))]
     fn cause(self) -> Cause
@@ -196,8 +178,8 @@ impl Evidence {
     }
 
     /// Whether it is a fault of this type: the voltages change as in one or a current multiplies,
-    /// unless there is inrush and no voltage changes by an eighth. Without voltages: a current rises,
-    /// without inrush.
+    /// unless there is inrush and no voltage changes by an eighth, or the current only subsides.
+    /// Without voltages: a current rises, without inrush.
     #[tactic(auto, unfolding(crate::specs::Deciding::is_fault))]
     fn is_fault(self, fault: FaultType) -> bool
         requires { spec.IsSmall self }
@@ -207,6 +189,7 @@ impl Evidence {
             Some(voltages) => {
                 (dips(voltages, fault) || self.multiplies())
                     && (!self.is_inrush() || changes_by(voltages, 8))
+                    && !self.subsides(voltages, 32)
             }
             None => self.rises() && !self.is_inrush(),
         }
@@ -226,8 +209,8 @@ impl Evidence {
         }
     }
 
-    /// Whether the voltages change by about as much as decides: less than twice that in a fault,
-    /// half that or more else; or there are none.
+    /// Whether the voltages change or sag by about as much as decides: less than twice that in a
+    /// fault, half that or more else; or there are none.
     #[tactic(auto, unfolding(crate::specs::Deciding::is_level_near))]
     fn is_level_near(self) -> bool
         requires { spec.IsSmall self }
@@ -235,8 +218,10 @@ impl Evidence {
     {
         let fault = self.deciding().fault_type();
         match self.voltages {
-            Some(voltages) if self.is_fault(fault) => !dips_far(voltages, fault),
-            Some(voltages) => dips_near(voltages, fault),
+            Some(voltages) if self.is_fault(fault) => {
+                !dips_far(voltages, fault) || self.subsides(voltages, 16)
+            }
+            Some(voltages) => dips_near(voltages, fault) && !self.subsides(voltages, 64),
             None => true,
         }
     }

@@ -4,6 +4,7 @@
 
 mod bounds;
 mod departure;
+mod dips;
 mod disturbance;
 mod ends;
 mod form;

@@ -113,6 +113,13 @@ impl Phases {
     {
         self.a.max(self.b).max(self.c)
     }
+
+    /// The least of the three.
+    pub fn least(self) -> u128
+        ensures { result ≡ spec.least_of self }
+    {
+        self.a.min(self.b).min(self.c)
+    }
 }
 
 impl Changes {

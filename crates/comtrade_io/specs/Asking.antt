@@ -136,6 +136,7 @@ pub record IsDiagnosed (rows : List Row) (made : Diagnosed) : Type 0 where
   pub names : AreAll rows (map (λ s. s.now) made.names.items)
   pub recursive : IsFlag rows (codes "recursive") made.recursive
   pub long : IsFlag rows (codes "long") made.long
+  pub line : IsOption rows (codes "line") made.line
   pub json : IsFlag rows (codes "json") made.json
   pub encoding : IsOption rows (codes "encoding") made.encoding
   pub output : IsOption rows (codes "output") made.output

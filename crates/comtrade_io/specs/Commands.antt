@@ -162,9 +162,9 @@ list = with_rule (over_names (codes "list")) (option (codes "min-current"))
 abbrev pub events : App
 events = with_rule (with_rule (over_names (codes "events")) (option (codes "type"))) (flag (codes "csv"))
 
--- the faults of many records, in a block for each where that is asked for
+-- the faults of many records, in a block for each where that is asked for, and where they are on a line
 abbrev pub fault_names : App
-fault_names = with_rule (named (codes "fault")) (flag (codes "long"))
+fault_names = with_rule (with_rule (named (codes "fault")) (flag (codes "long"))) (option (codes "line"))
 
 abbrev pub fault : App
 fault = with_output (with_encoding (with_json fault_names))

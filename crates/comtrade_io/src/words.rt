@@ -158,6 +158,8 @@ pub struct Diagnosed<'a> {
     pub recursive: bool,
     /// A block for each fault, in place of a line.
     pub long: bool,
+    /// The file of the line on which the faults are.
+    pub line: Option<&'a str>,
     /// As JSON.
     pub json: bool,
     /// How names are spelled that aren't ASCII.

@@ -1,14 +1,19 @@
 //! The faults of a record: what they are, how they went, and what that rests on.
 
 mod block;
+mod both;
 mod contacts;
 mod fault;
 mod known;
+mod lack;
 mod members;
+mod missing;
 mod none;
 mod of_record;
 mod parts;
 mod phasors;
+mod place;
+mod place_text;
 mod role;
 mod signs;
 mod table;

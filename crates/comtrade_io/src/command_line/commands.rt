@@ -335,15 +335,17 @@ fn events<'a>(alloc: Global) -> Result<Command<'a>, AllocError>
     with(one, flag(alloc, "csv", "Print comma-separated values"))
 }
 
-/// The names of `fault`, and its longer form.
+/// The names of `fault`, its longer form, and the line on which the faults are.
 fn fault_names<'a>(alloc: Global) -> Result<Command<'a>, AllocError>
     ensures { IfOk result (IsCommand Spec.fault_names) }
 {
     let about =
         "Print each fault: type, inception, clearing, breaker time, and how certain that is";
     let long = "Print a block for each fault: phasors, contacts, and what each conclusion rests on";
+    let line = "Locate the faults on the line of FILE (TOML: length, r1, x1, r0, x0)";
     let names = named(alloc, "fault", about, SURVEY_STATUS)?;
-    with(names, flag(alloc, "long", long))
+    let one = with(names, flag(alloc, "long", long))?;
+    with(one, option(alloc, "line", "FILE", line))
 }
 
 fn fault<'a>(alloc: Global) -> Result<Command<'a>, AllocError>

@@ -3,6 +3,7 @@
 use crate::faults::members::{
     ContactMembers, FaultMembers, PhasorMembers, RecloseMembers, RecordFaults,
 };
+use crate::faults::place_text::put_place;
 use crate::faults::table::{put_ms, put_peak};
 use crate::float::{put_float, put_places};
 use crate::number::put_ordinal;
@@ -148,7 +149,7 @@ fn put_ends(out: &mut Vec<u8>, fault: &FaultMembers) -> Result<(), AllocError> {
 fn put_clearing(out: &mut Vec<u8>, fault: &FaultMembers) -> Result<(), AllocError> {
     put(out, "cleared    ")?;
     if fault.cleared_row.is_none() {
-        return put(out, "not within the record\n");
+        return put(out, "not found in the currents\n");
     }
     put_millis_of(out, fault.cleared_ms)?;
     put(out, " since the trigger")?;
@@ -262,6 +263,7 @@ pub(crate) fn put_block(
     put_breaker(out, fault)?;
     put_sign(out, "opened     ", &fault.breaker)?;
     put_reclose(out, &fault.reclose)?;
+    put_place(out, fault)?;
     put(out, "greatest   ")?;
     put_peak(out, &fault.peak)?;
     put(out, "\n")?;

@@ -25,9 +25,14 @@ pub(crate) struct Told {
     pub(crate) row: usize,
 }
 
-/// What a change to this state tells of a channel with such a role.
-fn sign_of(role: Role, closed: bool) -> Option<Sign> {
-    match (role, closed) {
+/// What a change to this state tells of a channel with such a role. A command is given where the
+/// state is not the normal one.
+fn sign_of(role: Role, closed: bool, normal: bool) -> Option<Sign> {
+    let state = match role {
+        Role::Start | Role::Trip | Role::Reclose => closed != normal,
+        Role::Open | Role::Closed => closed,
+    };
+    match (role, state) {
         (Role::Start, true) => Some(Sign::Start),
         (Role::Trip, true) => Some(Sign::Trip),
         (Role::Open, true) | (Role::Closed, false) => Some(Sign::Opened),
@@ -39,7 +44,7 @@ fn sign_of(role: Role, closed: bool) -> Option<Sign> {
 /// What an event tells, by the name of its channel.
 fn told_by<A: Allocator>(file: &File<A>, event: Event) -> Option<Told> {
     let channel = file.head.status.items().get(event.channel)?;
-    let sign = sign_of(role_of(channel.id.items())?, event.closed)?;
+    let sign = sign_of(role_of(channel.id.items())?, event.closed, channel.normal)?;
     Some(Told {
         sign,
         channel: event.channel,

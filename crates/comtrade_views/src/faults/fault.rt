@@ -1,14 +1,16 @@
 //! One fault as values.
 
+use crate::faults::both::both_of;
 use crate::faults::known::{Known, Source};
 use crate::faults::members::{EndMembers, FaultMembers};
 use crate::faults::parts::{
     change_members, ids_of, millis_at, millis_between, peak_members, voltage_change,
 };
 use crate::faults::phasors::phasors_of;
+use crate::faults::place::located_of;
 use crate::faults::signs::signs_of;
 use crate::faults::words::{
-    EVOLVES, MISSING, RATIO, VOLTAGES, level_words, phases_of, type_name, type_words,
+    EVOLVES, MISSING, OLDER, RATIO, VOLTAGES, level_words, phases_of, type_name, type_words,
 };
 use crate::instant::put_instant;
 use crate::json::text_of;
@@ -55,6 +57,9 @@ fn doubts_of(
     }
     if doubts.voltages {
         list.push(String::from_str(alloc, VOLTAGES)?)?;
+    }
+    if disturbance.may_be_older {
+        list.push(String::from_str(alloc, OLDER)?)?;
     }
     if doubts.missing {
         list.push(String::from_str(alloc, MISSING)?)?;
@@ -103,11 +108,14 @@ pub(crate) fn fault_members<A: Allocator + Copy>(
     let last = row_or(cleared, file.rows.items().len());
     let first_end = row_or(known.first_end(), last);
     let signs = signs_of(source, known)?;
-    let phasors = phasors_of(alloc, lists, file, place, inception, first_end)?;
+    let both = both_of(lists, file, inception, first_end)?;
+    let phasors = phasors_of(alloc, file, place, &both)?;
+    let is_evolving = evolves(known.fault, phasors.risen);
+    let located = located_of(source, known, &both, is_evolving)?;
     Ok(FaultMembers {
         fault: String::from_str(alloc, type_name(known.fault))?,
         phases: String::from_str(alloc, type_words(known.fault))?,
-        doubts: doubts_of(alloc, disturbance, evolves(known.fault, phasors.risen))?,
+        doubts: doubts_of(alloc, disturbance, is_evolving)?,
         instant: instant_of(source, inception)?,
         inception_ms: millis_at(source.times, inception),
         inception_row: ordinal(inception),
@@ -125,6 +133,8 @@ pub(crate) fn fault_members<A: Allocator + Copy>(
         voltages: ids_of(alloc, file, place.voltages)?,
         change: change_members(disturbance.evidence.currents),
         voltage_change: voltage_change(disturbance.evidence.voltages),
+        place: located.place,
+        no_place: located.lack,
         reference: phasors.reference,
         phasors: phasors.list,
     })

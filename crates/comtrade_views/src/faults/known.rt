@@ -2,6 +2,7 @@
 
 use crate::faults::contacts::Told;
 use crate::faults::words::phases_of;
+use comtrade_distance::LineData;
 use comtrade_fault::{FaultType, Found};
 use comtrade_format::File;
 use std::alloc::{Allocator, Global};
@@ -14,6 +15,8 @@ pub(crate) struct Source<'a, A: Allocator> {
     pub(crate) file: &'a File<A>,
     pub(crate) times: &'a [Option<i64>],
     pub(crate) told: &'a [Told],
+    /// The line on which the faults are, if one is given.
+    pub(crate) line: Option<&'a LineData>,
 }
 
 /// A fault of a record: its type, the row of its inception, and that of the next fault.

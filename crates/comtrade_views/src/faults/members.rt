@@ -35,6 +35,30 @@ pub(crate) struct PhasorMembers {
     pub(crate) fault_angle: Option<f64>,
 }
 
+/// Where on a line a fault is, in kilometres from the measured end and in percent of the line: by
+/// Takagi's method from the least to the greatest, if the current through the fault is at most so
+/// many degrees from the reference, and by the reactance of the loop alone. The loop is doubtful where
+/// the type is. The rows were measured.
+#[derive(Drop, Serialize)]
+pub(crate) struct PlaceMembers {
+    pub(crate) fault_loop: String,
+    pub(crate) doubtful: bool,
+    pub(crate) method: String,
+    pub(crate) line_km: f64,
+    pub(crate) least_km: f64,
+    pub(crate) greatest_km: f64,
+    pub(crate) likely_km: f64,
+    pub(crate) reactance_km: f64,
+    pub(crate) least_percent: f64,
+    pub(crate) greatest_percent: f64,
+    pub(crate) likely_percent: f64,
+    pub(crate) reactance_percent: f64,
+    pub(crate) reference: String,
+    pub(crate) degrees: f64,
+    pub(crate) first_row: u128,
+    pub(crate) last_row: u128,
+}
+
 /// When the current of each faulted phase keeps to its course again, in milliseconds since the
 /// trigger.
 #[derive(Drop, Serialize)]
@@ -85,6 +109,8 @@ pub(crate) struct FaultMembers {
     pub(crate) voltages: Vec<String>,
     pub(crate) change: ChangeMembers,
     pub(crate) voltage_change: Option<f64>,
+    pub(crate) place: Option<PlaceMembers>,
+    pub(crate) no_place: Option<String>,
     pub(crate) reference: Option<String>,
     pub(crate) phasors: Vec<PhasorMembers>,
 }

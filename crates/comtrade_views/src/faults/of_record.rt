@@ -11,6 +11,7 @@ use crate::instant::put_instant;
 use crate::json::text_of;
 use crate::number::ordinal;
 use crate::times::{time_at, times_since_trigger};
+use comtrade_distance::LineData;
 use comtrade_fault::{Found, Kind, disturbances_of};
 use comtrade_format::File;
 use comtrade_io::ToolFault;
@@ -113,12 +114,13 @@ pub fn first_fault_of<A: Allocator + Copy>(
     })
 }
 
-/// The faults of a record of this name.
+/// The faults of a record of this name, and where they are on a line, if one is given.
 pub fn faults_of<A: Allocator + Copy>(
     alloc: Global,
     lists: A,
     file: &File<A>,
     name: &[u8],
+    line: Option<&LineData>,
 ) -> Result<RecordFaults, ToolFault> {
     let times = times_since_trigger(lists, file)?;
     let told = told_in(lists, file)?;
@@ -128,6 +130,7 @@ pub fn faults_of<A: Allocator + Copy>(
         file,
         times: &times,
         told: &told,
+        line,
     };
     let mut all = disturbances_of(lists, file)?;
     all.sort_by_key(|found| inception_of(found))?;

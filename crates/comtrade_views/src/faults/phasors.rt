@@ -1,54 +1,14 @@
 //! The phasors of a fault's channels: in a cycle before it and in the last one of the whole fault.
 
-use crate::cycles::{
-    MeasureFault, Measured, Phasor, Window, cycle_to, measured_at, measures_of, reference_in,
-    spans_of,
-};
+use crate::cycles::{Measured, Phasor, measured_at};
+use crate::faults::both::Both;
 use crate::faults::members::PhasorMembers;
 use crate::json::text_of;
 use crate::number::ordinal;
 use comtrade_analysis::Sequence;
 use comtrade_fault::Place;
 use comtrade_format::File;
-use comtrade_values::Memory;
 use std::alloc::{AllocError, Allocator, Global};
-
-/// The fewest rows of a cycle that is measured.
-const LEAST: u128 = 8;
-
-/// What was measured of all channels over a cycle; nothing where there is no such cycle.
-fn measured_over<A: Allocator + Copy>(
-    alloc: A,
-    file: &File<A>,
-    window: Option<Window>,
-) -> Result<Vec<Option<Measured<A>>, A>, Memory> {
-    let Some(window) = window else {
-        return Ok(Vec::new(alloc));
-    };
-    match measures_of(alloc, file, window) {
-        Ok(measures) => Ok(measures),
-        Err(MeasureFault::Memory(_)) => Err(Memory),
-        Err(_) => Ok(Vec::new(alloc)),
-    }
-}
-
-/// The cycle before the last one before a row, or the last one where there is no other.
-fn cycle_before(spans: &[Window], row: usize) -> Option<Window> {
-    let last = cycle_to(spans, row)?;
-    match cycle_to(spans, last.from) {
-        Some(window) => Some(window),
-        None => Some(last),
-    }
-}
-
-/// The cycle that ends before a row, if it begins at another one or later.
-fn cycle_within(spans: &[Window], from: usize, to: usize) -> Option<Window> {
-    let window = cycle_to(spans, to)?;
-    if window.from < from {
-        return None;
-    }
-    Some(window)
-}
 
 /// The magnitude of a channel's fundamental, and its angle from the reference.
 fn phasor_at<A: Allocator>(
@@ -91,14 +51,6 @@ pub(crate) struct Phasors {
 /// The channels of a place: voltages, then currents.
 fn channels_of(place: Place) -> [Option<Sequence>; 2] {
     [place.voltages, Some(place.currents)]
-}
-
-/// What was measured before a fault and in it, and the channel from which angles are counted.
-#[derive(Drop)]
-struct Both<A: Allocator> {
-    before: Vec<Option<Measured<A>>, A>,
-    fault: Vec<Option<Measured<A>>, A>,
-    reference: Option<usize>,
 }
 
 /// The phasors of a channel.
@@ -175,38 +127,21 @@ fn risen_in<A: Allocator>(both: &Both<A>, currents: Sequence) -> (bool, bool, bo
     )
 }
 
-/// The phasors around a fault that begins at a row, and of which the first phase ends at another.
-pub(crate) fn phasors_of<A: Allocator + Copy>(
+/// The phasors around a fault.
+pub(crate) fn phasors_of<A: Allocator>(
     alloc: Global,
-    lists: A,
     file: &File<A>,
     place: Place,
-    inception: usize,
-    end: usize,
-) -> Result<Phasors, Memory> {
-    let spans = match spans_of(lists, file, LEAST) {
-        Ok(spans) => spans,
-        Err(MeasureFault::Memory(_)) => return Err(Memory),
-        Err(_) => Vec::new(lists),
-    };
-    let before = measured_over(lists, file, cycle_before(&spans, inception))?;
-    let fault = measured_over(lists, file, cycle_within(&spans, inception, end))?;
-    let reference = match reference_in(&file.head, &before, None) {
-        Ok(reference) => reference,
-        Err(_) => None,
-    };
-    let both = Both {
-        before,
-        fault,
-        reference,
-    };
-    let name = match reference.and_then(|place| file.head.analog.items().get(place)) {
+    both: &Both<A>,
+) -> Result<Phasors, AllocError> {
+    let found = both.reference;
+    let name = match found.and_then(|place| file.head.analog.items().get(place)) {
         Some(channel) => Some(text_of(alloc, channel.id.items())?),
         None => None,
     };
     Ok(Phasors {
         reference: name,
-        risen: risen_in(&both, place.currents),
-        list: list_of(alloc, file, &both, place)?,
+        risen: risen_in(both, place.currents),
+        list: list_of(alloc, file, both, place)?,
     })
 }

@@ -3,6 +3,7 @@
 use crate::faults::members::{
     ContactMembers, FaultMembers, PeakMembers, RecloseMembers, RecordFaults,
 };
+use crate::faults::place_text::put_place_cell;
 use crate::float::put_float;
 use crate::instant::put_millis;
 use crate::table::{end_cell, end_row, put_cell, table_of};
@@ -14,6 +15,11 @@ use std::num::saturating_f64_to_i64;
 const NAMES: &str = "\
 inception\x1Ffault\x1Fms since trigger\x1Flasts ms\x1Ftrip ms\x1Fbreaker ms\x1Freclose\x1F\
 greatest current\x1Fstation\x1Fdevice\x1Frecord\x1Fremarks\x1F\n";
+
+/// The same where a line is given.
+const NAMES_ON_LINE: &str = "\
+inception\x1Ffault\x1Fplace km\x1Fms since trigger\x1Flasts ms\x1Ftrip ms\x1Fbreaker ms\x1F\
+reclose\x1Fgreatest current\x1Fstation\x1Fdevice\x1Frecord\x1Fremarks\x1F\n";
 
 /// The columns of the table of records without a fault.
 const NONE: &str = "trigger\x1Fstation\x1Fdevice\x1Frecord\x1Fno fault, because\x1F\n";
@@ -79,18 +85,26 @@ fn put_remarks(table: &mut Vec<u8>, fault: &FaultMembers) -> Result<(), AllocErr
         put(table, doubt.as_str())?;
         between = "; ";
     }
+    between = if fault.doubts.is_empty() { "" } else { "; " };
     if fault.cleared_row.is_none() {
-        put(table, if fault.doubts.is_empty() { "" } else { "; " })?;
-        put(table, "it lasts to the end of the record")?;
+        put(table, between)?;
+        put(table, "no clearing is found in the currents")?;
+        between = "; ";
+    }
+    if let Some(reason) = fault.no_place.as_ref() {
+        put(table, between)?;
+        put(table, "no place: ")?;
+        put(table, reason.as_str())?;
     }
     end_cell(table)
 }
 
-/// A line of the table.
+/// A line of the table, with the place where a line is given.
 fn put_fault(
     table: &mut Vec<u8>,
     record: &RecordFaults,
     fault: &FaultMembers,
+    is_on_line: bool,
 ) -> Result<(), AllocError> {
     match &fault.instant {
         Some(instant) => put_cell(table, instant.as_str())?,
@@ -98,6 +112,10 @@ fn put_fault(
     }
     put(table, fault.fault.as_str())?;
     put_cell(table, if fault.doubts.is_empty() { "" } else { "?" })?;
+    if is_on_line {
+        put_place_cell(table, fault.place.as_ref())?;
+        end_cell(table)?;
+    }
     put_ms_cell(table, fault.inception_ms)?;
     put_ms_cell(table, fault.lasts_ms)?;
     put_ms_cell(table, after_of(&fault.trip))?;
@@ -110,12 +128,26 @@ fn put_fault(
     end_row(table)
 }
 
-/// The table of faults, below a line of column names.
-pub(crate) fn fault_table(alloc: Global, records: &[RecordFaults]) -> Result<Vec<u8>, AllocError> {
-    let mut table = table_of(alloc, NAMES)?;
+/// Whether faults are located, or why they are not is told: a line is given then.
+fn are_on_line(records: &[RecordFaults]) -> bool {
     for record in records {
         for fault in record.faults.iter() {
-            put_fault(&mut table, record, fault)?;
+            if fault.place.is_some() || fault.no_place.is_some() {
+                return true;
+            }
+        }
+    }
+    false
+}
+
+/// The table of faults, below a line of column names.
+pub(crate) fn fault_table(alloc: Global, records: &[RecordFaults]) -> Result<Vec<u8>, AllocError> {
+    let is_on_line = are_on_line(records);
+    let names = if is_on_line { NAMES_ON_LINE } else { NAMES };
+    let mut table = table_of(alloc, names)?;
+    for record in records {
+        for fault in record.faults.iter() {
+            put_fault(&mut table, record, fault, is_on_line)?;
         }
     }
     Ok(table)

@@ -1,5 +1,6 @@
 //! The words for fault types, causes and doubts.
 
+use comtrade_distance::Loop;
 use comtrade_fault::{Cause, Doubts, Evidence, FaultType};
 
 /// The name of a fault type.
@@ -53,7 +54,9 @@ pub(crate) fn phases_of(fault: FaultType) -> (bool, bool, bool) {
 pub(crate) fn cause_words(cause: Cause) -> &'static str {
     match cause {
         Cause::Inrush => "inrush: a quarter of the current or more is second harmonic",
-        Cause::Drop => "load falls, or poles open: no current rises",
+        Cause::Drop => {
+            "load falls, poles open, or a fault ends whose inception is not seen: no current rises"
+        },
         Cause::Load => "load rises: the voltages do not dip as in a fault",
     }
 }
@@ -66,6 +69,10 @@ pub(crate) const VOLTAGES: &str = "the voltages look like another type than the 
 
 /// That a phase takes part later which does not at first.
 pub(crate) const EVOLVES: &str = "another phase carries fault current later: the fault evolves";
+
+/// That it may have begun before.
+pub(crate) const OLDER: &str =
+    "it may have begun before the first row that is examined, and last longer";
 
 /// That samples are missing.
 pub(crate) const MISSING: &str = "samples are missing around the inception";
@@ -88,4 +95,26 @@ pub(crate) fn level_words(evidence: Evidence) -> &'static str {
 /// Whether anything is doubtful.
 pub(crate) fn has_doubt(doubts: Doubts) -> bool {
     doubts.ratio || doubts.voltages || doubts.level || doubts.missing
+}
+
+/// The name of a loop: its phases, and E for earth.
+pub(crate) fn loop_name(fault_loop: Loop) -> &'static str {
+    match fault_loop {
+        Loop::A => "A-E",
+        Loop::B => "B-E",
+        Loop::C => "C-E",
+        Loop::AB => "A-B",
+        Loop::BC => "B-C",
+        Loop::CA => "C-A",
+    }
+}
+
+/// What the current through the fault is compared with.
+pub(crate) fn reference_words(fault_loop: Loop) -> &'static str {
+    match fault_loop {
+        Loop::A | Loop::B | Loop::C => "the sum of the currents",
+        Loop::AB => "the change of A - B",
+        Loop::BC => "the change of B - C",
+        Loop::CA => "the change of C - A",
+    }
 }

@@ -1,0 +1,5 @@
+pub mod LineFiles
+pub mod Loops
+pub mod Places
+pub mod Primary
+pub mod Ranges
