@@ -71,6 +71,18 @@ def partners(one, other):
                 taken.add(k)
                 found.append((i, k))
                 break
+    return sorted(found + alike(one, other, found))
+
+
+def alike(one, other, equal):
+    """Voltages and currents of other names, units or components: each the only one of its phase and kind on its side in its record."""
+    mine, theirs = ({pair[n] for pair in equal} for n in (0, 1))
+    kind = lambda channel: (channel[4][-1], channel[2], channel[12])
+    found = []
+    for i, a in enumerate(one.analog):
+        fits = [k for k, b in enumerate(other.analog) if kind(a) == kind(b)]
+        if a[2] and i not in mine and len(fits) == 1 and fits[0] not in theirs and [kind(b) for b in one.analog].count(kind(a)) == 1:
+            found.append((i, fits[0]))
     return found
 
 

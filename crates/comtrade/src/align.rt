@@ -36,9 +36,8 @@ const NO_WAY: &str = "error: --by expects instant, trigger or fault\n";
 
 const NO_SHIFT: &str = "error: --shift expects milliseconds, such as 3.7 or -20\n";
 
-const NO_PAIRS: &str =
-    "comtrade: --map expects channels of A and B, each once and both of one unit, \
-such as UA=VA,IA=IL1\n";
+const NO_PAIR: &str = "\": expected a channel of A and one of B, both of one unit and each \
+named once, such as UA=VA\n";
 
 const NO_FAULT: &str = "comtrade: --by fault needs a fault in each of these records\n";
 
@@ -132,9 +131,17 @@ pub(crate) fn match_names<A: Allocator + Copy>(
     pairs: Option<&str>,
     said: &mut Vec<u8, A>,
 ) -> Result<bool, ToolFault> {
-    if match_channels(lists, &one.file, &mut other.file, pairs, said)? {
-        return Ok(true);
-    }
-    put(said, NO_PAIRS)?;
-    Ok(false)
+    let mut told = Vec::new(lists);
+    let is_matched = match_channels(lists, &one.file, &mut other.file, pairs, &mut told)?;
+    put(
+        said,
+        if is_matched {
+            ""
+        } else {
+            "comtrade: --map has \""
+        },
+    )?;
+    said.extend_from_slice(&told)?;
+    put(said, if is_matched { "" } else { NO_PAIR })?;
+    Ok(is_matched)
 }

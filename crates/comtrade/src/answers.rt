@@ -1,6 +1,7 @@
 //! What is printed of many records, one after the other.
 
-use crate::each::without_program;
+use crate::opened::without_program;
+use crate::output::Findings;
 use comtrade_io::put_safe;
 use comtrade_values::{lines_of, put, put_count};
 use comtrade_views::{put_json, text_of};
@@ -10,9 +11,11 @@ use std::alloc::{AllocError, Global};
 /// What is printed of one record.
 #[derive(Drop)]
 struct Answer {
-    /// None for a record that cannot be read.
+    /// None where it isn't asked for, or isn't known.
     trigger: Option<i64>,
     text: Vec<u8>,
+    /// Whether the record was read.
+    is_read: bool,
     /// Whether the record has no error.
     is_sound: bool,
 }
@@ -68,7 +71,7 @@ impl Answers {
     }
 
     /// Whether each record was read and has no error.
-    pub(crate) fn is_sound(&self) -> bool {
+    fn is_sound(&self) -> bool {
         self.wrong() == 0
     }
 
@@ -89,6 +92,7 @@ impl Answers {
         self.list.push(Answer {
             trigger,
             text,
+            is_read: true,
             is_sound,
         })?;
         Ok(())
@@ -112,6 +116,7 @@ impl Answers {
         self.list.push(Answer {
             trigger: None,
             text,
+            is_read: false,
             is_sound: false,
         })?;
         Ok(())
@@ -123,8 +128,26 @@ impl Answers {
             .sort_by_key(|answer| (answer.trigger.is_none(), answer.trigger))
     }
 
-    /// All of them, and below a text how many records there are.
-    pub(crate) fn text(&self, alloc: Global) -> Result<Vec<u8>, AllocError> {
+    /// Whether a record was read.
+    fn has_read(&self) -> bool {
+        self.list.iter().any(|answer| answer.is_read)
+    }
+
+    /// All of them; `is_whole` if no name is missing.
+    pub(crate) fn to_findings(
+        &self,
+        alloc: Global,
+        is_whole: bool,
+    ) -> Result<Findings, AllocError> {
+        Ok(Findings {
+            text: self.text(alloc)?,
+            is_sound: is_whole && self.is_sound(),
+            has_read: self.has_read(),
+        })
+    }
+
+    /// All of them as text, and below a text how many records there are.
+    fn text(&self, alloc: Global) -> Result<Vec<u8>, AllocError> {
         let mut out = Vec::new(alloc);
         for answer in self.list.iter() {
             out.extend_from_slice(&answer.text)?;

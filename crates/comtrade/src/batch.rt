@@ -3,15 +3,15 @@
 use crate::answers::{Answers, put_name};
 use crate::content::{NO_ENCODING, encoding_of};
 use crate::each::{Told, put_each};
-use crate::ending::{Ending, stem_of};
-use crate::fault::UNREAD;
+use crate::ending::stem_of;
 use crate::find::is_record;
 use crate::folder::{Pairs, pairs_of};
-use crate::load::{read_inputs, read_record};
+use crate::load::Inputs;
 use crate::one::{put_verdict, run_check, run_view};
-use crate::output::{named_file, put_out};
+use crate::opened::{Opened, odd_line, open_record};
+use crate::output::{Findings, named_file, put_findings};
 use crate::pictures::run_pictures;
-use crate::survey::NOT_UTF8;
+use crate::twice::{is_data, is_head};
 use crate::view::is_askable;
 use crate::wanted::{Product, Wanted};
 use crate::{complain, is_folder, note_size, out_of_memory, say};
@@ -32,16 +32,6 @@ fn is_there<R: Files>(rt: &R, name: &str) -> bool {
         Ok(data) => !data.is_dir(),
         Err(_) => false,
     }
-}
-
-/// Whether a name is that of a configuration file.
-fn is_head(name: &str) -> bool {
-    matches!(stem_of(name).0, Some(Ending::Cfg | Ending::CfgGz))
-}
-
-/// Whether a name is that of a data file.
-fn is_data(name: &str) -> bool {
-    matches!(stem_of(name).0, Some(Ending::Dat | Ending::DatGz))
 }
 
 /// Whether a name is that of a file without such an ending as files of records have.
@@ -111,12 +101,28 @@ fn add_odd<R: Eprint + AllocGlobal>(
     names: &[Vec<u8>],
 ) -> Result<(), ToolFault> {
     for name in names {
-        let mut text = Vec::from_slice(rt.alloc(), name)?;
-        put(&mut text, NOT_UTF8)?;
-        say(rt, &text);
-        answers.add_unread(rt.alloc(), name, &text)?;
+        let line = odd_line(rt.alloc(), name)?;
+        say(rt, &line);
+        answers.add_unread(rt.alloc(), name, &line)?;
     }
     Ok(())
+}
+
+/// Reads the files of a record; None if that fails, which is printed and added.
+fn inputs_for<R: Files + Input + Eprint + AllocGlobal + Clone + Drop>(
+    rt: &R,
+    is_strict: bool,
+    answers: &mut Answers,
+    name: &str,
+) -> Result<Option<Inputs>, ToolFault> {
+    match open_record(rt, name, is_strict)? {
+        Opened::Inputs(inputs) => Ok(Some(inputs)),
+        Opened::Unread(said) => {
+            say(rt, &said);
+            answers.add_unread(rt.alloc(), name.as_bytes(), &said)?;
+            Ok(None)
+        }
+    }
 }
 
 /// Adds the verdict on a record.
@@ -128,12 +134,7 @@ fn add_verdict<R: Files + Input + Eprint + AllocGlobal + Clone + Drop>(
     name: &str,
 ) -> Result<(), ToolFault> {
     let alloc = rt.alloc();
-    let names = Names {
-        file: name,
-        dat: None,
-    };
-    let Some(inputs) = read_inputs(rt, names) else {
-        answers.add_unread(alloc, name.as_bytes(), UNREAD)?;
+    let Some(inputs) = inputs_for(rt, false, answers, name)? else {
         return Ok(());
     };
     note_size(rt, is_watched, &inputs);
@@ -153,12 +154,7 @@ fn add_measured<R: Files + Input + Eprint + AllocGlobal + Clone + Drop>(
     name: &str,
 ) -> Result<(), ToolFault> {
     let alloc = rt.alloc();
-    let names = Names {
-        file: name,
-        dat: None,
-    };
-    let Some(inputs) = read_record(rt, names, asked.part.strict) else {
-        answers.add_unread(alloc, name.as_bytes(), UNREAD)?;
+    let Some(inputs) = inputs_for(rt, asked.part.strict, answers, name)? else {
         return Ok(());
     };
     note_size(rt, is_watched, &inputs);
@@ -177,14 +173,14 @@ fn add_measured<R: Files + Input + Eprint + AllocGlobal + Clone + Drop>(
     Ok(())
 }
 
-/// What is printed of many records, as text or as lines of JSON; whether none has an error.
+/// What is printed of many records, as text or as lines of JSON.
 fn answers_of<R: Files + Input + Eprint + AllocGlobal + Clone + Drop>(
     rt: &R,
     is_watched: bool,
     batch: Batch,
     asked: &Batched<'_>,
     pairs: &Pairs,
-) -> Result<(Vec<u8>, bool), ToolFault> {
+) -> Result<Findings, ToolFault> {
     let mut answers = Answers::new(rt.alloc(), asked.json);
     let mut zone = None;
     for pair in &pairs.names {
@@ -199,8 +195,7 @@ fn answers_of<R: Files + Input + Eprint + AllocGlobal + Clone + Drop>(
     if batch != Batch::Check {
         answers.sort()?;
     }
-    let is_sound = answers.is_sound() && pairs.is_whole;
-    Ok((answers.text(rt.alloc())?, is_sound))
+    Ok(answers.to_findings(rt.alloc(), pairs.is_whole)?)
 }
 
 /// Prints what is asked of many records, one after the other. The status is 1 if one has an error.
@@ -212,10 +207,7 @@ fn run_texts<R: Files + Input + Print + Eprint + AllocGlobal + Clone + Drop>(
     pairs: &Pairs,
 ) -> u8 {
     match answers_of(rt, is_watched, batch, asked, pairs) {
-        Ok((text, is_sound)) => {
-            let status = put_out(rt, asked.output, &text);
-            if is_sound { status } else { 1 }
-        }
+        Ok(findings) => put_findings(rt, asked.output, &findings),
         Err(fault) => complain(rt, "records", fault),
     }
 }

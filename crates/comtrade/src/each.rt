@@ -1,8 +1,8 @@
 //! What is printed of one of many records.
 
 use crate::load::Inputs;
+use crate::opened::{say_repairs, without_program};
 use crate::say;
-use crate::survey::say_repairs;
 use crate::view::{Room, shown_file, view_file};
 use crate::wanted::Wanted;
 use crate::zones::to_zone_of;
@@ -19,14 +19,6 @@ pub(crate) enum Told {
     Put(i64),
     /// It is refused, for this reason.
     Refused(Vec<u8>),
-}
-
-/// A line without the name of the program in front.
-pub(crate) fn without_program(line: &[u8]) -> &[u8] {
-    match line.strip_prefix(b"comtrade: ") {
-        Some(rest) => rest,
-        None => line,
-    }
 }
 
 /// Prints lines on a record, each after its name in place of the program's.

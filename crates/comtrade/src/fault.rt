@@ -3,22 +3,18 @@
 use crate::content::{NO_ENCODING, Reading, encoding_of, file_spelled};
 use crate::folder::{Pairs, pairs_of};
 use crate::line::line_named;
-use crate::load::{Inputs, read_record};
-use crate::output::put_out;
-use crate::survey::{NOT_UTF8, say_repairs};
+use crate::load::Inputs;
+use crate::opened::{Opened, odd_line, open_record, say_repairs, without_program};
+use crate::output::{Findings, put_findings};
 use crate::zones::to_zone_of;
 use crate::{complain, say};
 use bumpalo::Bump;
 use comtrade_diagnostics::Zone;
 use comtrade_distance::LineData;
-use comtrade_io::{Diagnosed, Names, ToolFault};
-use comtrade_values::put;
+use comtrade_io::{Diagnosed, ToolFault};
 use comtrade_views::{Faults, faults_of, put_fault_blocks, put_fault_lines, put_faults_json};
 use std::alloc::Global;
 use std::rt::Files;
-
-/// Why a record is not among those that were read; what it is stands on standard error.
-pub(crate) const UNREAD: &[u8] = b"its files cannot be read";
 
 /// How records are read, and the line on which their faults are located, if one is given.
 #[derive(Clone, Copy)]
@@ -27,7 +23,7 @@ struct Taken<'a> {
     line: Option<&'a LineData>,
 }
 
-/// Adds a record whose files were read. Its lists are released in one step.
+/// Adds a record whose files were read; false if it has an error. Its lists are released in one step.
 fn add_inputs<R: AllocGlobal + Eprint>(
     rt: &R,
     taken: Taken<'_>,
@@ -35,7 +31,7 @@ fn add_inputs<R: AllocGlobal + Eprint>(
     faults: &mut Faults,
     inputs: &Inputs,
     name: &str,
-) -> Result<(), ToolFault> {
+) -> Result<bool, ToolFault> {
     let lists = Bump::new(rt.alloc());
     let mut said = Vec::new(&lists);
     match file_spelled(
@@ -50,34 +46,40 @@ fn add_inputs<R: AllocGlobal + Eprint>(
             let alloc = rt.alloc();
             let name = name.as_bytes();
             faults.add(faults_of(alloc, &lists, &loaded.file, name, taken.line)?)?;
+            Ok(true)
         }
         None => {
             say(rt, &said);
             faults.add_unread(rt.alloc(), name.as_bytes(), &said)?;
+            Ok(false)
         }
     }
-    Ok(())
 }
 
-/// Adds the records, one after the other.
+/// Adds the records, one after the other. Whether the files of one could be read.
 fn add_pairs<R: Files + Input + Eprint + AllocGlobal + Clone + Drop>(
     rt: &R,
     taken: Taken<'_>,
     faults: &mut Faults,
     pairs: &[String],
-) -> Result<(), ToolFault> {
+) -> Result<bool, ToolFault> {
     let mut zone = None;
+    let mut has_read = false;
     for pair in pairs {
-        let name = Names {
-            file: pair.as_str(),
-            dat: None,
-        };
-        match read_record(rt, name, false) {
-            Some(inputs) => add_inputs(rt, taken, &mut zone, faults, &inputs, pair.as_str())?,
-            None => faults.add_unread(rt.alloc(), pair.as_str().as_bytes(), UNREAD)?,
+        let name = pair.as_str();
+        match open_record(rt, name, false)? {
+            Opened::Inputs(inputs) => {
+                if add_inputs(rt, taken, &mut zone, faults, &inputs, name)? {
+                    has_read = true;
+                }
+            }
+            Opened::Unread(said) => {
+                say(rt, &said);
+                faults.add_unread(rt.alloc(), name.as_bytes(), without_program(&said))?;
+            }
         }
     }
-    Ok(())
+    Ok(has_read)
 }
 
 /// Adds the names that are not UTF-8.
@@ -87,10 +89,9 @@ fn add_odd<R: Eprint + AllocGlobal>(
     names: &[Vec<u8>],
 ) -> Result<(), ToolFault> {
     for name in names {
-        let mut text = Vec::from_slice(rt.alloc(), name)?;
-        put(&mut text, NOT_UTF8)?;
-        say(rt, &text);
-        faults.add_unread(rt.alloc(), name, &text)?;
+        let line = odd_line(rt.alloc(), name)?;
+        say(rt, &line);
+        faults.add_unread(rt.alloc(), name, &line)?;
     }
     Ok(())
 }
@@ -114,15 +115,18 @@ fn diagnosed<R: Files + Input + Eprint + AllocGlobal + Clone + Drop>(
     asked: &Diagnosed<'_>,
     line: Option<&LineData>,
     pairs: &Pairs,
-) -> Result<(Vec<u8>, bool), ToolFault> {
+) -> Result<Findings, ToolFault> {
     let mut faults = Faults::new(rt.alloc());
     add_odd(rt, &mut faults, &pairs.odd)?;
     let encoding = asked.encoding;
     let taken = Taken { encoding, line };
-    add_pairs(rt, taken, &mut faults, &pairs.names)?;
+    let has_read = add_pairs(rt, taken, &mut faults, &pairs.names)?;
     faults.sort()?;
-    let is_sound = faults.is_sound() && pairs.is_whole;
-    Ok((text_of(rt.alloc(), asked, &faults)?, is_sound))
+    Ok(Findings {
+        text: text_of(rt.alloc(), asked, &faults)?,
+        is_sound: faults.is_sound() && pairs.is_whole,
+        has_read,
+    })
 }
 
 /// The line that is named, if one is; `Err` if its file tells none, and why is printed.
@@ -155,10 +159,7 @@ pub(crate) fn run_fault<R: Files + Input + Print + Eprint + AllocGlobal + Clone 
         return 1;
     };
     match diagnosed(rt, asked, line.as_ref(), &pairs) {
-        Ok((text, is_sound)) => {
-            let status = put_out(rt, asked.output, &text);
-            if is_sound { status } else { 1 }
-        }
+        Ok(findings) => put_findings(rt, asked.output, &findings),
         Err(fault) => complain(rt, "records", fault),
     }
 }

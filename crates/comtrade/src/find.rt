@@ -1,8 +1,9 @@
 //! Finds the other file of a pair.
 
 use crate::ending::{Ending, WHOLE, folder_of, stem_of, without_ending};
-use crate::folder::{is_file, refuse_folder};
-use crate::{is_folder, message_on, out_of_memory, read_named, refuse};
+use crate::folder::{is_file, put_folder};
+use crate::load::or_say;
+use crate::{is_folder, message_on, read_named};
 use comtrade_io::{Names, put_safe};
 use comtrade_values::put;
 use std::alloc::{AllocError, Global};
@@ -104,10 +105,15 @@ fn partner_refusal(alloc: Global, name: &str, ending: Ending) -> Result<Vec<u8>,
     Ok(said)
 }
 
-/// Prints that the other file is missing.
-fn refuse_partner<R: Eprint + AllocGlobal>(rt: &R, name: &str, ending: Ending) -> Option<Pairing> {
-    refuse(rt, 1, partner_refusal(rt.alloc(), name, ending));
-    None
+/// No record: `said` tells that the other file is missing.
+fn refuse_partner(
+    name: &str,
+    ending: Ending,
+    said: &mut Vec<u8>,
+) -> Result<Option<Pairing>, AllocError> {
+    let line = partner_refusal(*said.allocator(), name, ending)?;
+    said.extend_from_slice(&line)?;
+    Ok(None)
 }
 
 /// The byte-order mark of UTF-8.
@@ -157,26 +163,27 @@ fn is_single_file<R: Files + Input + AllocGlobal>(rt: &R, name: &str) -> bool {
     }
 }
 
-/// The files of a record by a name without an ending; None if one is missing, which is printed.
-fn found_by_stem<R: Files + Input + Eprint + AllocGlobal + Clone + Drop>(
+/// The files of a record by a name without an ending; None if one is missing, which `said` tells.
+fn found_by_stem<R: Files + Input + AllocGlobal + Clone + Drop>(
     rt: &R,
     name: &str,
+    said: &mut Vec<u8>,
 ) -> Result<Option<Pairing>, AllocError> {
     if let Some(cfg) = either_for(rt, name, Ending::Cfg, Ending::CfgGz)? {
-        return found_data(rt, name, cfg);
+        return found_data(rt, name, cfg, said);
     }
     if let Some(single) = found_single(rt, name)? {
         return Ok(Some(single));
     }
     if is_folder(rt, name) {
-        refuse_folder(rt, name);
+        put_folder(said, name)?;
         return Ok(None);
     }
-    Ok(refuse_partner(rt, name, Ending::Cfg))
+    refuse_partner(name, Ending::Cfg, said)
 }
 
 /// The file with one of two endings, plain or compressed: the one that is named, else the plain one.
-fn either_for<R: Files + AllocGlobal + Clone + Drop>(
+pub(crate) fn either_for<R: Files + AllocGlobal + Clone + Drop>(
     rt: &R,
     name: &str,
     plain: Ending,
@@ -191,33 +198,35 @@ fn either_for<R: Files + AllocGlobal + Clone + Drop>(
     }
 }
 
-/// The files of a record with this configuration file; None if there are no data, which is printed.
-fn found_data<R: Files + Input + Eprint + AllocGlobal + Clone + Drop>(
+/// The files of a record with this configuration file; None if there are no data, which `said` tells.
+fn found_data<R: Files + Input + AllocGlobal + Clone + Drop>(
     rt: &R,
     name: &str,
     cfg: String,
+    said: &mut Vec<u8>,
 ) -> Result<Option<Pairing>, AllocError> {
     let dat = either_for(rt, name, Ending::Dat, Ending::DatGz)?;
     if dat.is_some() || is_single_file(rt, cfg.as_str()) {
         return Ok(Some(Pairing { cfg, dat }));
     }
-    Ok(refuse_partner(rt, name, Ending::Dat))
+    refuse_partner(name, Ending::Dat, said)
 }
 
-/// The files of a record by one name; None if one is missing, which is printed. Standard input is a
+/// The files of a record by one name; None if one is missing, which `said` tells. Standard input is a
 /// single file.
-fn found_pair<R: Files + Input + Eprint + AllocGlobal + Clone + Drop>(
+fn found_pair<R: Files + Input + AllocGlobal + Clone + Drop>(
     rt: &R,
     name: &str,
+    said: &mut Vec<u8>,
 ) -> Result<Option<Pairing>, AllocError> {
     if name == "-" {
         let cfg = String::from_str(rt.alloc(), name)?;
         return Ok(Some(Pairing { cfg, dat: None }));
     }
     let Some(ending) = stem_of(name).0 else {
-        return found_by_stem(rt, name);
+        return found_by_stem(rt, name, said);
     };
-    if !is_file(rt, name) {
+    if !is_file(rt, name, said)? {
         return Ok(None);
     }
     if ending.is_whole() {
@@ -225,8 +234,20 @@ fn found_pair<R: Files + Input + Eprint + AllocGlobal + Clone + Drop>(
         return Ok(Some(Pairing { cfg, dat: None }));
     }
     match either_for(rt, name, Ending::Cfg, Ending::CfgGz)? {
-        Some(cfg) => found_data(rt, name, cfg),
-        None => Ok(refuse_partner(rt, name, Ending::Cfg)),
+        Some(cfg) => found_data(rt, name, cfg, said),
+        None => refuse_partner(name, Ending::Cfg, said),
+    }
+}
+
+/// The names of both files; None if one is missing, which `said` tells.
+pub(crate) fn pairing_or_why<R: Files + Input + AllocGlobal + Clone + Drop>(
+    rt: &R,
+    names: Names<'_>,
+    said: &mut Vec<u8>,
+) -> Result<Option<Pairing>, AllocError> {
+    match names.dat {
+        Some(dat) => named_pair(rt.alloc(), names.file, dat),
+        None => found_pair(rt, names.file, said),
     }
 }
 
@@ -235,17 +256,9 @@ pub(crate) fn pairing_of<R: Files + Input + Eprint + AllocGlobal + Clone + Drop>
     rt: &R,
     names: Names<'_>,
 ) -> Option<Pairing> {
-    let paired = match names.dat {
-        Some(dat) => named_pair(rt.alloc(), names.file, dat),
-        None => found_pair(rt, names.file),
-    };
-    match paired {
-        Ok(pairing) => pairing,
-        Err(_) => {
-            out_of_memory(rt);
-            None
-        }
-    }
+    let mut said = Vec::new(rt.alloc());
+    let found = pairing_or_why(rt, names, &mut said);
+    or_say(rt, found, &said)
 }
 
 fn named_pair(alloc: Global, cfg: &str, dat: &str) -> Result<Option<Pairing>, AllocError> {

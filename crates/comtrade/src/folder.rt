@@ -1,6 +1,8 @@
 //! Folders: the records in them, and names that are not those of files.
 
 use crate::ending::{Ending, has_ending};
+use crate::load::put_complaint;
+use crate::twice::{has_data, has_head, is_data, is_head};
 use crate::words::put_escaped;
 use crate::{LIMIT, complain, is_folder, message_on, refuse};
 use comtrade_io::{ToolFault, fault_of, put_safe, read_up_to};
@@ -33,10 +35,50 @@ fn is_record(name: &[u8]) -> bool {
 #[derive(Drop)]
 pub(crate) struct Pairs {
     pub(crate) names: Vec<String>,
+    /// Those of them that are data files.
+    data_files: Vec<String>,
     /// The names, as printable characters, that are not UTF-8, so that the files cannot be opened.
     pub(crate) odd: Vec<Vec<u8>>,
     /// Whether all folders were read; those that weren't are printed.
     pub(crate) is_whole: bool,
+    /// Whether the folder that is looked into has a record.
+    has_record: bool,
+}
+
+impl Pairs {
+    /// So far there are none.
+    fn new(alloc: Global) -> Pairs {
+        Pairs {
+            names: Vec::new(alloc),
+            data_files: Vec::new(alloc),
+            odd: Vec::new(alloc),
+            is_whole: true,
+            has_record: false,
+        }
+    }
+
+    /// Whether there is no record.
+    pub(crate) fn is_empty(&self) -> bool {
+        self.names.is_empty() && self.odd.is_empty()
+    }
+}
+
+/// Adds a record by the name of one of its files, unless its other file has been named.
+fn add_name<R: Files + AllocGlobal + Clone + Drop>(
+    rt: &R,
+    pairs: &mut Pairs,
+    name: String,
+) -> Result<(), AllocError> {
+    if is_data(name.as_str()) {
+        if has_head(rt, &pairs.names, name.as_str())? {
+            return Ok(());
+        }
+        pairs.data_files.push(name.clone()?)?;
+    } else if is_head(name.as_str()) && has_data(rt, &pairs.data_files, name.as_str())? {
+        return Ok(());
+    }
+    pairs.names.push(name)?;
+    Ok(())
 }
 
 /// How many folders may lie one in another.
@@ -115,15 +157,18 @@ fn found_in<R: Files + AllocGlobal>(
 }
 
 /// Adds the records of a folder, sorted by name, and returns the folders in it.
-fn add_folder<R: Files + AllocGlobal>(
+fn add_folder<R: Files + AllocGlobal + Clone + Drop>(
     rt: &R,
     folder: &str,
     recursive: bool,
     pairs: &mut Pairs,
 ) -> Result<Vec<String>, ToolFault> {
     let entries = found_in(rt, folder, recursive)?;
+    if !entries.names.is_empty() || !entries.odd.is_empty() {
+        pairs.has_record = true;
+    }
     for name in entries.names {
-        pairs.names.push(name)?;
+        add_name(rt, pairs, name)?;
     }
     for name in entries.odd {
         pairs.odd.push(name)?;
@@ -133,7 +178,7 @@ fn add_folder<R: Files + AllocGlobal>(
 
 /// Adds the records of folders, and returns the folders in these. One that cannot be read is
 /// printed.
-fn add_folders<R: Files + Eprint + AllocGlobal>(
+fn add_folders<R: Files + Eprint + AllocGlobal + Clone + Drop>(
     rt: &R,
     folders: &[String],
     pairs: &mut Pairs,
@@ -158,7 +203,7 @@ fn add_folders<R: Files + Eprint + AllocGlobal>(
 
 /// Adds the records of folders that lie in a named one, folder by folder. Those that lie too deep are
 /// printed.
-fn add_below<R: Files + Eprint + AllocGlobal>(
+fn add_below<R: Files + Eprint + AllocGlobal + Clone + Drop>(
     rt: &R,
     folders: Vec<String>,
     pairs: &mut Pairs,
@@ -185,59 +230,70 @@ fn path_in<R: AllocGlobal>(rt: &R, folder: &str, file: &str) -> Result<String, A
     Ok(path)
 }
 
+/// Adds the records of a folder that is named, and with `recursive` those of the folders below it. It
+/// prints that there is none. A folder that cannot be read is an error.
+fn add_named_folder<R: Files + Eprint + AllocGlobal + Clone + Drop>(
+    rt: &R,
+    folder: &str,
+    recursive: bool,
+    pairs: &mut Pairs,
+) -> Result<(), ToolFault> {
+    pairs.has_record = false;
+    let within = add_folder(rt, folder, recursive, pairs)?;
+    add_below(rt, within, pairs)?;
+    if !pairs.has_record {
+        let after = ": no record in this folder\n";
+        let said = message_on(rt.alloc(), "comtrade: ", folder.as_bytes(), after);
+        refuse(rt, 0, said);
+    }
+    Ok(())
+}
+
 /// The records that the names mean: for a folder, those in it, and with `recursive` also those of
-/// the folders below it.
-pub(crate) fn pairs_of<R: Files + Eprint + AllocGlobal>(
+/// the folders below it. Two names that are the files of one pair mean one record.
+pub(crate) fn pairs_of<R: Files + Eprint + AllocGlobal + Clone + Drop>(
     rt: &R,
     names: &[&str],
     recursive: bool,
 ) -> Result<Pairs, ToolFault> {
-    let mut pairs = Pairs {
-        names: Vec::new(rt.alloc()),
-        odd: Vec::new(rt.alloc()),
-        is_whole: true,
-    };
+    let mut pairs = Pairs::new(rt.alloc());
     for name in names {
         if !is_folder(rt, name) {
-            pairs.names.push(String::from_str(rt.alloc(), name)?)?;
+            add_name(rt, &mut pairs, String::from_str(rt.alloc(), name)?)?;
             continue;
         }
-        match add_folder(rt, name, recursive, &mut pairs) {
-            Ok(within) => add_below(rt, within, &mut pairs)?,
-            Err(fault) => {
-                complain(rt, name, fault);
-                return Err(fault);
-            }
+        if let Err(fault) = add_named_folder(rt, name, recursive, &mut pairs) {
+            complain(rt, name, fault);
+            return Err(fault);
         }
     }
     Ok(pairs)
 }
 
-/// That a name is that of a folder, and how to look at it.
-fn folder_refusal(alloc: Global, name: &[u8]) -> Result<Vec<u8>, AllocError> {
-    let after = ": is a folder: use comtrade list ";
-    let mut said = message_on(alloc, "comtrade: ", name, after)?;
-    put_safe(&mut said, name)?;
-    put(&mut said, "\n")?;
-    Ok(said)
+/// Adds that a name is that of a folder, and how to look at it.
+pub(crate) fn put_folder(said: &mut Vec<u8>, name: &str) -> Result<(), AllocError> {
+    put(said, "comtrade: ")?;
+    put_safe(said, name.as_bytes())?;
+    put(said, ": is a folder: use comtrade list ")?;
+    put_safe(said, name.as_bytes())?;
+    put(said, "\n")
 }
 
-/// Prints that a name is that of a folder.
-pub(crate) fn refuse_folder<R: Eprint + AllocGlobal>(rt: &R, name: &str) {
-    refuse(rt, 1, folder_refusal(rt.alloc(), name.as_bytes()));
-}
-
-/// Whether there is a file with this name; if not, it prints why.
-pub(crate) fn is_file<R: Files + Eprint + AllocGlobal>(rt: &R, name: &str) -> bool {
+/// Whether there is a file with this name; if not, `said` tells why.
+pub(crate) fn is_file<R: Files + AllocGlobal>(
+    rt: &R,
+    name: &str,
+    said: &mut Vec<u8>,
+) -> Result<bool, AllocError> {
     match fs::metadata(rt, name) {
         Ok(data) if data.is_dir() => {
-            refuse_folder(rt, name);
-            false
+            put_folder(said, name)?;
+            Ok(false)
         }
-        Ok(_) => true,
+        Ok(_) => Ok(true),
         Err(error) => {
-            complain(rt, name, fault_of(error.kind(), ToolFault::Input));
-            false
+            put_complaint(said, name, fault_of(error.kind(), ToolFault::Input))?;
+            Ok(false)
         }
     }
 }

@@ -25,3 +25,27 @@ pub(crate) fn put_out<R: Files + Print + Eprint + AllocGlobal>(
         None => print_bytes(rt, bytes),
     }
 }
+
+/// What was found in many records.
+#[derive(Drop)]
+pub(crate) struct Findings {
+    pub(crate) text: Vec<u8>,
+    /// Whether no record has an error.
+    pub(crate) is_sound: bool,
+    /// Whether a record was read, or the text is on those that cannot be.
+    pub(crate) has_read: bool,
+}
+
+/// Prints findings, or writes them to the file that is named, unless no record could be read. The
+/// status is 1 if one has an error.
+pub(crate) fn put_findings<R: Files + Print + Eprint + AllocGlobal>(
+    rt: &R,
+    output: Option<&str>,
+    findings: &Findings,
+) -> u8 {
+    if !findings.is_sound && !findings.has_read && named_file(output).is_some() {
+        return 1;
+    }
+    let status = put_out(rt, output, &findings.text);
+    if findings.is_sound { status } else { 1 }
+}

@@ -4,8 +4,8 @@ use crate::each::{Told, put_each};
 use crate::ending::{folder_of, stem_of};
 use crate::folder::Pairs;
 use crate::load::read_record;
+use crate::opened::odd_line;
 use crate::output::named_file;
-use crate::survey::NOT_UTF8;
 use crate::wanted::{Product, Wanted};
 use crate::write::write_new;
 use crate::{complain, note_size, print_bytes, say};
@@ -75,33 +75,64 @@ fn file_for(
     Ok(file)
 }
 
-/// Writes what is asked of a record to a file, and prints its name; false if that fails, which is
-/// printed.
+/// What became of the picture of a record.
+#[derive(Clone, Copy, PartialEq, Eq)]
+enum Drawn {
+    Written,
+    /// It is refused, or cannot be written, which is printed.
+    Refused,
+    /// The folder for it cannot be made, which is printed.
+    Homeless,
+}
+
+/// Writes a file into a folder, which is made if it does not exist, and prints its name.
+fn write_into<R: Files + Print + Eprint + AllocGlobal>(
+    rt: &R,
+    folder: &str,
+    file: &str,
+    bytes: &[u8],
+) -> Result<Drawn, ToolFault> {
+    if let Err(error) = fs::create_dir_all(rt, folder) {
+        complain(rt, folder, fault_of(error.kind(), ToolFault::Output));
+        return Ok(Drawn::Homeless);
+    }
+    if !write_new(rt, file, bytes) {
+        return Ok(Drawn::Refused);
+    }
+    let mut line = Vec::new(rt.alloc());
+    put_safe(&mut line, file.as_bytes())?;
+    put(&mut line, "\n")?;
+    if print_bytes(rt, &line) == 0 {
+        Ok(Drawn::Written)
+    } else {
+        Ok(Drawn::Refused)
+    }
+}
+
+/// Writes what is asked of a record to a file of a folder, and prints its name.
 fn write_each<R: Files + Input + Print + Eprint + AllocGlobal + Clone + Drop>(
     rt: &R,
     is_watched: bool,
     wanted: Wanted<'_>,
     record: &str,
+    folder: &str,
     file: &str,
-) -> Result<bool, ToolFault> {
+) -> Result<Drawn, ToolFault> {
     let names = Names {
         file: record,
         dat: None,
     };
     let Some(inputs) = read_record(rt, names, wanted.part.strict) else {
-        return Ok(false);
+        return Ok(Drawn::Refused);
     };
     note_size(rt, is_watched, &inputs);
     let mut zone = None;
     let mut out = Vec::new(rt.alloc());
     let told = put_each(rt, &mut zone, wanted, record, &inputs, &mut out)?;
-    if matches!(&told, Told::Refused(_)) || !write_new(rt, file, &out) {
-        return Ok(false);
+    if matches!(&told, Told::Refused(_)) {
+        return Ok(Drawn::Refused);
     }
-    let mut line = Vec::new(rt.alloc());
-    put_safe(&mut line, file.as_bytes())?;
-    put(&mut line, "\n")?;
-    Ok(print_bytes(rt, &line) == 0)
+    write_into(rt, folder, file, &out)
 }
 
 /// Writes a file for each record into a folder. Whether all were written.
@@ -112,24 +143,25 @@ fn write_all<R: Files + Input + Print + Eprint + AllocGlobal + Clone + Drop>(
     pairs: &Pairs,
     folder: &str,
 ) -> Result<bool, ToolFault> {
-    let mut is_whole = pairs.is_whole && pairs.odd.is_empty();
+    let mut is_whole = pairs.is_whole && pairs.odd.is_empty() && !pairs.is_empty();
     for name in &pairs.odd {
-        let mut text = Vec::from_slice(rt.alloc(), name)?;
-        put(&mut text, NOT_UTF8)?;
-        say(rt, &text);
+        say(rt, &odd_line(rt.alloc(), name)?);
     }
     let ending = ending_of(wanted.product);
     for record in &pairs.names {
-        let file = file_for(rt.alloc(), folder, &pairs.names, record.as_str(), ending)?;
-        if !write_each(rt, is_watched, wanted, record.as_str(), file.as_str())? {
-            is_whole = false;
+        let name = record.as_str();
+        let file = file_for(rt.alloc(), folder, &pairs.names, name, ending)?;
+        match write_each(rt, is_watched, wanted, name, folder, file.as_str())? {
+            Drawn::Written => {}
+            Drawn::Refused => is_whole = false,
+            Drawn::Homeless => return Ok(false),
         }
     }
     Ok(is_whole)
 }
 
-/// Writes a picture or page of each of many records into the folder that is named, which is made if
-/// it does not exist. The status is 1 if one cannot be written.
+/// Writes a picture or page of each of many records into the folder that is named, which is made for
+/// the first one if it does not exist. The status is 1 if one cannot be written.
 pub(crate) fn run_pictures<R: Files + Input + Print + Eprint + AllocGlobal + Clone + Drop>(
     rt: &R,
     is_watched: bool,
@@ -140,9 +172,6 @@ pub(crate) fn run_pictures<R: Files + Input + Print + Eprint + AllocGlobal + Clo
     let Some(folder) = named_file(asked.output) else {
         return 2;
     };
-    if let Err(error) = fs::create_dir_all(rt, folder) {
-        return complain(rt, folder, fault_of(error.kind(), ToolFault::Output));
-    }
     match write_all(rt, is_watched, wanted, pairs, folder) {
         Ok(true) => 0,
         Ok(false) => 1,

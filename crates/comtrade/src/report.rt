@@ -2,17 +2,16 @@
 
 use crate::around::rms_of;
 use crate::content::{Loaded, NO_ENCODING, Reading, encoding_of, file_spelled};
-use crate::fault::UNREAD;
 use crate::folder::{Pairs, pairs_of};
-use crate::load::{Inputs, read_record};
-use crate::output::put_out;
+use crate::load::Inputs;
+use crate::opened::{Opened, line_on, odd_line, open_record};
+use crate::output::{Findings, put_findings};
 use crate::report_text::{BEGIN, COLUMNS, END, FRAME, STYLE};
-use crate::survey::NOT_UTF8;
 use crate::zones::to_zone_of;
 use crate::{complain, say};
 use comtrade_diagnostics::Zone;
 use comtrade_format::File;
-use comtrade_io::{Names, Reported, ToolFault, VERSION, put_safe};
+use comtrade_io::{Reported, ToolFault, VERSION, put_safe};
 use comtrade_plot::{PlotOptions, Rms, Timed, page_over, plot_over};
 use comtrade_values::{lines_of, put, put_count, without_blank_end};
 use comtrade_views::{
@@ -171,25 +170,20 @@ fn add_pairs<R: Files + Input + Eprint + AllocGlobal + Clone + Drop>(
 ) -> Result<(), ToolFault> {
     let alloc = rt.alloc();
     for pair in &pairs.names {
-        let name = Names {
-            file: pair.as_str(),
-            dat: None,
-        };
-        if let Some(inputs) = read_record(rt, name, false) {
-            add_inputs(rt, encoding, found, &inputs, pair.as_str())?;
-            continue;
+        let name = pair.as_str();
+        match open_record(rt, name, false)? {
+            Opened::Inputs(inputs) => add_inputs(rt, encoding, found, &inputs, name)?,
+            Opened::Unread(said) => {
+                say(rt, &said);
+                let line = line_on(alloc, name.as_bytes(), &said)?;
+                add_unread(alloc, found, name.as_bytes(), line)?;
+            }
         }
-        let mut said = Vec::from_slice(alloc, pair.as_str().as_bytes())?;
-        put(&mut said, ": ")?;
-        said.extend_from_slice(UNREAD)?;
-        put(&mut said, "\n")?;
-        add_unread(alloc, found, pair.as_str().as_bytes(), said)?;
     }
     for name in &pairs.odd {
-        let mut said = Vec::from_slice(alloc, name)?;
-        put(&mut said, NOT_UTF8)?;
-        say(rt, &said);
-        add_unread(alloc, found, name, said)?;
+        let line = odd_line(alloc, name)?;
+        say(rt, &line);
+        add_unread(alloc, found, name, line)?;
     }
     Ok(())
 }
@@ -242,14 +236,17 @@ fn report_of<R: Files + Input + Eprint + AllocGlobal + Clone + Drop>(
     rt: &R,
     asked: &Reported<'_>,
     pairs: &Pairs,
-) -> Result<(Vec<u8>, bool), ToolFault> {
+) -> Result<Findings, ToolFault> {
     let mut found = Found::new(rt.alloc());
     add_pairs(rt, asked.encoding, &mut found, pairs)?;
     sort_summaries(&mut found.records)?;
     sort_events(&mut found.events)?;
     found.faults.sort()?;
-    let is_sound = found.faults.is_sound() && pairs.is_whole;
-    Ok((text_of(rt.alloc(), &found)?, is_sound))
+    Ok(Findings {
+        text: text_of(rt.alloc(), &found)?,
+        is_sound: found.faults.is_sound() && pairs.is_whole && !pairs.is_empty(),
+        has_read: !found.names.is_empty(),
+    })
 }
 
 /// Prints the report on the named records. The status is 1 if one cannot be read.
@@ -265,10 +262,7 @@ pub(crate) fn run_report<R: Files + Input + Print + Eprint + AllocGlobal + Clone
         return 1;
     };
     match report_of(rt, asked, &pairs) {
-        Ok((text, is_sound)) => {
-            let status = put_out(rt, asked.output, &text);
-            if is_sound { status } else { 1 }
-        }
+        Ok(findings) => put_findings(rt, asked.output, &findings),
         Err(fault) => complain(rt, "records", fault),
     }
 }

@@ -2,6 +2,7 @@
 //! contains, its rows as CSV, and what is measured over its cycles.
 #![tactic(auto)]
 
+mod alike;
 mod channel_json;
 mod column_names;
 mod comma_separated;

@@ -1,11 +1,7 @@
 //! Channels of two records that belong to each other, though their names differ.
 
-ghost use Rattle.std.specs.Prelude.{◌↔◌, IsTrue};
-ghost use Rattle.comtrade_views.specs.Matching.{AreAlike, AreOneKind, AreOnePhase};
-
+use crate::alike::{has_namesake, is_namesake, only_alike};
 use crate::cycles::place_of;
-use comtrade_analysis::phase_of;
-use comtrade_fault::{is_current, is_voltage};
 use comtrade_format::{File, Head};
 use comtrade_io::{ToolFault, put_safe};
 use comtrade_values::{Decimal, Items, put};
@@ -18,30 +14,6 @@ use std::mem;
 struct Match {
     one: usize,
     other: usize,
-}
-
-/// Whether two units are both of a current, or both of a voltage.
-fn are_one_kind(one: &[u8], other: &[u8]) -> bool
-    ensures { IsTrue result ↔ AreOneKind one.now other.now }
-{
-    (is_current(one) && is_current(other)) || (is_voltage(one) && is_voltage(other))
-}
-
-/// Whether two channels measure the same phase, which is known.
-fn are_one_phase<A: Allocator>(one: &AnalogChannel<A>, other: &AnalogChannel<A>) -> bool
-    ensures { IsTrue result ↔ AreOnePhase one.now other.now }
-{
-    let phase = phase_of(one);
-    phase.is_some() && phase == phase_of(other)
-}
-
-/// Whether two channels measure the same: a voltage, or a current, of one phase, on one side.
-fn are_alike<A: Allocator>(one: &AnalogChannel<A>, other: &AnalogChannel<A>) -> bool
-    ensures { IsTrue result ↔ AreAlike one.now other.now }
-{
-    are_one_kind(one.unit.items(), other.unit.items())
-        && are_one_phase(one, other)
-        && one.side == other.side
 }
 
 /// The power of ten of a unit's prefix, and the unit without it.
@@ -76,44 +48,21 @@ fn factors_in<A: Allocator>(channel: &AnalogChannel<A>, unit: &[u8]) -> Option<(
     Some((scaled(channel.a, power)?, scaled(channel.b, power)?))
 }
 
-/// The one channel that is alike; None where none or several are.
-fn only_alike<A: Allocator>(one: &AnalogChannel<A>, others: &[AnalogChannel<A>]) -> Option<usize> {
-    let mut found = None;
-    for (place, other) in others.iter().enumerate() {
-        if are_alike(one, other) {
-            if found.is_some() {
-                return None;
-            }
-            found = Some(place);
-        }
-    }
-    found
-}
-
-/// Whether one of the channels has this name.
-fn has_name<A: Allocator>(channels: &[AnalogChannel<A>], name: &[u8]) -> bool {
-    for channel in channels {
-        if channel.id.items() == name {
-            return true;
-        }
-    }
-    false
-}
-
-/// The channel of the second record that belongs to one of the first: neither has a namesake in the
-/// other record, each is the only one there that is alike, and their units differ only by a prefix.
+/// The channel of the second record that belongs to one of the first: neither is compared as it is
+/// with a channel of the other record, each is the only one there that is alike, and their units
+/// differ only by a prefix.
 fn alike_of<A: Allocator>(
     ones: &[AnalogChannel<A>],
     others: &[AnalogChannel<A>],
     one: usize,
 ) -> Option<Match> {
     let channel = ones.get(one)?;
-    if has_name(others, channel.id.items()) {
+    if has_namesake(others, channel) {
         return None;
     }
     let other = only_alike(channel, others)?;
     let beside = others.get(other)?;
-    if has_name(ones, beside.id.items()) || only_alike(beside, ones)? != one {
+    if has_namesake(ones, beside) || only_alike(beside, ones)? != one {
         return None;
     }
     factors_in(beside, channel.unit.items())?;
@@ -178,6 +127,9 @@ fn name_as<A: Allocator + Copy>(
     Ok(())
 }
 
+/// What is added to the name of a channel that has the name of the one that it is compared with.
+const DIFFERENT: &str = " (another unit, side, phase or component)\n";
+
 /// A line for each channel of the first record, with the one that it is compared with.
 fn put_matches<A: Allocator>(
     told: &mut Vec<u8, A>,
@@ -191,7 +143,8 @@ fn put_matches<A: Allocator>(
             put_safe(told, one.id.items())?;
             put(told, " is compared with ")?;
             put_safe(told, other.id.items())?;
-            put(told, "\n")?;
+            let is_other = one.id.items() == other.id.items() && !is_namesake(one, other);
+            put(told, if is_other { DIFFERENT } else { "\n" })?;
         }
     }
     Ok(())
@@ -220,12 +173,13 @@ fn name_all<A: Allocator + Copy>(
 }
 
 /// The channels that pairs such as `UA=VA,IA=IL1` mean, if any are given; None where one means none,
-/// or a channel stands twice.
+/// or a channel stands twice, and `told` then has that pair.
 fn matches_named<A: Allocator + Copy>(
     alloc: A,
     one: &File<A>,
     other: &File<A>,
     pairs: Option<&str>,
+    told: &mut Vec<u8, A>,
 ) -> Result<Option<Vec<Match, A>>, AllocError> {
     let mut matches = Vec::new(alloc);
     let Some(pairs) = pairs else {
@@ -234,7 +188,10 @@ fn matches_named<A: Allocator + Copy>(
     for pair in pairs.split(',') {
         match match_named(&one.head, &other.head, pair) {
             Some(found) if !is_matched(&matches, found) => matches.push(found)?,
-            _ => return Ok(None),
+            _ => {
+                put_safe(told, pair.as_bytes())?;
+                return Ok(None);
+            }
         }
     }
     Ok(Some(matches))
@@ -257,8 +214,9 @@ fn matches_alike<A: Allocator + Copy>(
 }
 
 /// Gives channels of the second record the names of those of the first that belong to them: those of
-/// pairs such as `UA=VA,IA=IL1`, then those of the same phase and kind where no names are equal.
-/// `told` gets a line for each. False where the pairs do not name channels of one unit, each once.
+/// pairs such as `UA=VA,IA=IL1`, then those of the same phase and kind where no channel is compared as
+/// it is. `told` gets a line for each. False where a pair does not name channels of one unit, each
+/// once; `told` then gets only that pair.
 pub fn match_channels<A: Allocator + Copy>(
     alloc: A,
     one: &File<A>,
@@ -266,7 +224,7 @@ pub fn match_channels<A: Allocator + Copy>(
     pairs: Option<&str>,
     told: &mut Vec<u8, A>,
 ) -> Result<bool, ToolFault> {
-    let Some(matches) = matches_named(alloc, one, other, pairs)? else {
+    let Some(matches) = matches_named(alloc, one, other, pairs, told)? else {
         return Ok(false);
     };
     put_matches(told, one, other, &matches)?;

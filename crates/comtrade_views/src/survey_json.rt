@@ -24,10 +24,11 @@ struct EventMembers {
     what: String,
 }
 
-/// The events of records.
+/// The events of records, and records that cannot be read.
 #[derive(Drop, Serialize)]
 struct EventLists {
     events: Vec<EventMembers>,
+    faults: Vec<FaultMembers>,
 }
 
 /// The numbers of channels.
@@ -112,12 +113,28 @@ fn event_members(
     })
 }
 
-/// The events of the records with these names, as a JSON object.
+/// The errors of the records that cannot be read, with their names.
+fn fault_members(alloc: Global, records: &[Summary]) -> Result<Vec<FaultMembers>, AllocError> {
+    let mut faults = Vec::new(alloc);
+    for record in records {
+        if record.facts.is_none() {
+            faults.push(FaultMembers {
+                record: text_of(alloc, &record.name)?,
+                fault: text_of(alloc, record.fault.trim_ascii_end())?,
+            })?;
+        }
+    }
+    Ok(faults)
+}
+
+/// The events of the records with these names, and the errors of those that cannot be read, as a JSON
+/// object.
 pub fn put_events_json(
     alloc: Global,
     out: &mut Vec<u8>,
     events: &[Event],
     names: &[String],
+    records: &[Summary],
 ) -> Result<(), ToolFault> {
     let mut list = Vec::new(alloc);
     let mut before = None;
@@ -125,7 +142,11 @@ pub fn put_events_json(
         list.push(event_members(alloc, event, before, names)?)?;
         before = event.at.or(before);
     }
-    put_json(alloc, out, &EventLists { events: list })?;
+    let lists = EventLists {
+        events: list,
+        faults: fault_members(alloc, records)?,
+    };
+    put_json(alloc, out, &lists)?;
     Ok(())
 }
 
@@ -184,17 +205,13 @@ pub fn put_summaries_json(
 ) -> Result<(), ToolFault> {
     let mut lists = RecordLists {
         records: Vec::new(alloc),
-        faults: Vec::new(alloc),
+        faults: fault_members(alloc, records)?,
     };
     for record in records {
-        match &record.facts {
-            Some(facts) => lists
+        if let Some(facts) = &record.facts {
+            lists
                 .records
-                .push(record_members(alloc, facts, &record.name)?)?,
-            None => lists.faults.push(FaultMembers {
-                record: text_of(alloc, &record.name)?,
-                fault: text_of(alloc, record.fault.trim_ascii_end())?,
-            })?,
+                .push(record_members(alloc, facts, &record.name)?)?;
         }
     }
     put_json(alloc, out, &lists)?;
