@@ -24,7 +24,7 @@ complete -c dfrd -l clip -d 'With frames, take a sample of -32768 as -32767, not
 complete -c dfrd -l start -x -a 'now' -d 'The time of the first scan: now (default) or microseconds since 1970-01-01 00:00:00 UTC'
 complete -c dfrd -l time -x -a 'clock rate' -d 'Date records by the clock (default without --start) or by the rate alone'
 complete -c dfrd -l gap -x -d 'The most lost scans for a pause of the input (default 1000000)'
-complete -c dfrd -l pcap -d 'Read a capture of the process bus (needs --look)'
+complete -c dfrd -l pcap -d 'Read scans from a capture of the process bus, by the plan below `go` of SETUP'
 complete -c dfrd -l look -d 'With --pcap alone: print what the capture has, and a set-up to start from'
 complete -c dfrd -l wait -d 'Let the input wait, so that nothing is lost for want of speed (default: if it is a file)'
 complete -c dfrd -l no-wait -d 'Do not let the input wait, even if it is a file'

@@ -5,6 +5,7 @@ ghost use Rattle.std.specs.Prelude.{◌≡◌, ◌-◌, ◌≤◌, ◌<◌, min,
 ghost use Rattle.rtrb.specs.Ring.{received, known_items};
 ghost use Rattle.dfrd.specs.Feeding as spec;
 
+use crate::capture::BusLines;
 use dfr_station::{Buffer, ROOM};
 use memchr::memrchr;
 use rtrb::{Consumer, Producer, RingBuffer};
@@ -107,6 +108,12 @@ fn send<R: Wait + Clock>(rt: &R, queue: &mut Producer<u8>, bytes: &[u8]) {
 }
 
 impl Feeder {
+    /// Reads nothing: the input could not be read.
+    pub(crate) fn break_off(&mut self) {
+        self.feed.is_broken.store(true, Ordering::SeqCst);
+        self.feed.is_over.store(true, Ordering::SeqCst);
+    }
+
     /// Reads the input to its end.
     pub(crate) fn read_all<I: Read, R: Wait + Clock>(&mut self, rt: &R, input: &mut I) {
         for _ in rt.forever() {
@@ -232,17 +239,19 @@ impl<R: Wait + Clock> Read for Fed<'_, R> {
     }
 }
 
-/// An input that is read directly, or by a thread.
+/// An input that is read directly, or by a thread; the lines of a capture.
 #[derive(Drop)]
 pub(crate) enum Source<'a, I, R> {
     Direct(I),
+    Capture(BusLines<'a, I, R>),
     Fed(Fed<'a, R>),
 }
 
-impl<I: Read, R: Wait + Clock> Read for Source<'_, I, R> {
+impl<I: Read + Drop, R: Eprint + AllocGlobal + Wait + Clock> Read for Source<'_, I, R> {
     fn read(&mut self, buf: &mut [u8]) -> io::Result<usize> {
         match self {
             Source::Direct(input) => input.read(buf),
+            Source::Capture(lines) => lines.read(buf),
             Source::Fed(fed) => fed.read(buf),
         }
     }

@@ -2,7 +2,9 @@
 #![tactic(auto)]
 
 mod amounts;
+mod capture;
 mod check;
+mod dating;
 mod disk;
 mod event_file;
 mod event_lines;
@@ -28,6 +30,7 @@ mod rules_file;
 mod threads;
 mod words;
 
+use crate::capture::bus_lines;
 use crate::event_file::{EventFile, events_at};
 use crate::event_lines::{EventLines, Printed};
 use crate::feed::Source;
@@ -41,7 +44,7 @@ use crate::outcome::{complain, out_of_memory};
 use crate::output::{lines_of, write_lines};
 use crate::place::{Place, watch};
 use crate::record::{Plan, inputs_in, keep_of, plan_of, record};
-use crate::threads::{copy_of, fed_of, has_begun};
+use crate::threads::{copy_of, fed_of, has_begun, read_input};
 use crate::words::{Answer, Asked, answer_of};
 use comtrade_io::{ToolFault, fault_of, put_safe};
 use comtrade_values::put;
@@ -264,6 +267,8 @@ fn main(rt: HostRuntime) -> ExitCode {
         kept,
         events,
     } = ready;
+    let mut plan = plan;
+    let bus = plan.bus.take();
     let frame = plan.frame_in(asked.input);
     let station = plan.station.as_slice();
     let Ok((heard, health)) = health_of(rt.alloc(), asked.health, frame, station) else {
@@ -298,14 +303,18 @@ fn main(rt: HostRuntime) -> ExitCode {
         }
         None => None,
     };
-    let source = match &operator {
-        None => Source::Direct(rt.reader()),
-        Some(control) => {
+    let source = match (&operator, bus) {
+        (None, None) => Source::Direct(rt.reader()),
+        (None, Some(bus)) => match bus_lines(&rt, bus, rt.reader()) {
+            Some(lines) => Source::Capture(lines),
+            None => return ExitCode::from(1),
+        },
+        (Some(control), bus) => {
             let (has_pieces, size) = plan.pieces_in(asked.input);
             let Some((mut feeder, fed)) = fed_of(&rt, control, has_pieces, size) else {
                 return ExitCode::from(1);
             };
-            let reads = move || feeder.read_all(&six, &mut six.reader());
+            let reads = move || read_input(&six, &mut feeder, bus);
             begun = begun && has_begun(&rt, thread::spawn(&rt, reads));
             Source::Fed(fed)
         }

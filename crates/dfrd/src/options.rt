@@ -10,6 +10,7 @@ const ABOUT: &str =
 const AFTER: &str = "\
 Standard input has one line for each scan, as after `go` in a script of dfr. With --raw it has one
 frame for each scan: each analogue channel in 2 bytes, then the status channels, sixteen in 2 bytes.
+With --pcap it is a capture, as `tcpdump -w -` writes it.
 dfrd prints one line for each event; docs/dfrd.md explains these lines.
 
 `dfrd --pcap --look < CAPTURE` needs no SETUP and no DIR: it prints the streams of sampled values and
@@ -128,7 +129,7 @@ fn with_capture<'a>(alloc: Global, command: Command<'a>) -> Result<Command<'a>, 
     let pcap = flag(
         alloc,
         "pcap",
-        "Read a capture of the process bus (needs --look)",
+        "Read scans from a capture of the process bus, by the plan below `go` of SETUP",
     );
     let look = "With --pcap alone: print what the capture has, and a set-up to start from";
     with(with(command, pcap)?, flag(alloc, "look", look))

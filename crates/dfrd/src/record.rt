@@ -2,7 +2,9 @@
 
 ghost use Rattle.std.specs.Prelude.{◌<◌, IfSome};
 
+use crate::capture::{Bus, FirstTime, bus_of};
 use crate::check::{frame_of, need_of, print_judged};
+use crate::dating::date;
 use crate::health_file::version;
 use crate::memory::{MemoryFault, affordable, machine_bytes};
 use crate::outcome::{complain, out_of_memory, reason_of};
@@ -15,8 +17,7 @@ use dfr_folder::Keep;
 use dfr_health::put_escaped;
 use dfr_setup::{Prepared, prepared_of};
 use dfr_station::{
-    Control, Event, Headers, Input, Printer, Run, Station, Store, finish_station, now, read_first,
-    run_station,
+    Control, Headers, Input, Printer, Run, Station, Store, finish_station, read_first, run_station,
 };
 use std::alloc::Global;
 use std::fs;
@@ -43,6 +44,10 @@ pub(crate) struct Plan {
     pub(crate) rate: u32,
     /// The station's name, as the value of a label of metrics.
     pub(crate) station: Vec<u8>,
+    /// What is recorded of a capture, if the input is one.
+    pub(crate) bus: Option<Bus>,
+    /// When the first scan of a capture came, once it did.
+    pub(crate) first: Option<FirstTime>,
     ghost sized: { 0 < frame },
 }
 
@@ -128,6 +133,9 @@ pub(crate) fn plan_of<R: Files<File = File> + Print + Eprint + AllocGlobal>(
             if judged.is_err() {
                 return None;
             }
+            let Ok((bus, first)) = bus_of(rt, asked, &prepared.inputs, &setup) else {
+                return None;
+            };
             let frame = frame_of(&prepared.inputs);
             let rate = prepared.inputs.rate();
             let mut station = Vec::new(rt.alloc());
@@ -141,6 +149,8 @@ pub(crate) fn plan_of<R: Files<File = File> + Print + Eprint + AllocGlobal>(
                 frame,
                 rate,
                 station,
+                bus,
+                first,
             })
         }
         Err(refusal) => {
@@ -241,16 +251,8 @@ pub(crate) fn record<
     let Ok(mut first) = read_first(rt, rt.alloc(), &mut input, printer, how) else {
         return out_of_memory(rt);
     };
-    let start = match asked.start {
-        Some(start) => start,
-        None => first.start(plan.rate),
-    };
     let waits = waits(rt, asked);
-    if !asked.has_dates(waits) {
-        first.clocks = None;
-    } else if !first.is_followed() && !first.is_empty() {
-        printer.print(now(rt), Event::Undated);
-    }
+    let start = date(rt, asked, plan, waits, &mut first, printer);
     match prepared_of(rt.alloc(), &plan.setup, start) {
         Ok(prepared) => {
             let Ok(headers) = headers_of(rt, asked, &prepared) else {

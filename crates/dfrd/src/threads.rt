@@ -2,11 +2,13 @@
 
 ghost use Rattle.std.specs.Prelude.{◌<◌};
 
+use crate::capture::{Bus, bus_lines};
 use crate::feed::{Fed, Feeder, feed_of};
 use crate::outcome::{complain, out_of_memory};
 use dfr_station::{Control, RunFault};
-use std::sync::Arc;
+use std::sync::{Arc, Wait};
 use std::thread::{JoinHandle, SpawnError};
+use std::time::Clock;
 
 /// Whether a thread was started. If not, that is printed.
 pub(crate) fn has_begun<R: Eprint + AllocGlobal, T: Drop, F: Drop>(
@@ -53,5 +55,20 @@ pub(crate) fn fed_of<'a, R: Eprint + AllocGlobal>(
             out_of_memory(rt);
             None
         }
+    }
+}
+
+/// Reads standard input to its end: as it comes, or the lines of a capture.
+pub(crate) fn read_input<R: Input + Eprint + AllocGlobal + Wait + Clock>(
+    rt: &R,
+    feeder: &mut Feeder,
+    bus: Option<Bus>,
+) {
+    match bus {
+        None => feeder.read_all(rt, &mut rt.reader()),
+        Some(bus) => match bus_lines(rt, bus, rt.reader()) {
+            Some(mut lines) => feeder.read_all(rt, &mut lines),
+            None => feeder.break_off(),
+        },
     }
 }

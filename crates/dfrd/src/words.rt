@@ -23,6 +23,8 @@ pub struct Asked<'a> {
     pub kind: Kind,
     /// The form in which scans come.
     pub input: Input,
+    /// The input is a capture of the process bus.
+    pub is_capture: bool,
     /// The instant of scan 0 in microseconds since 1970-01-01 00:00:00 UTC. None if it is read from
     /// the clock when the first scan comes.
     pub start: Option<i64>,
@@ -68,7 +70,8 @@ impl Asked<'_> {
     pub(crate) fn has_dates(&self, waits: bool) -> bool {
         match self.dated {
             Some(dated) => dated,
-            None => self.start.is_none() && !waits,
+            // a capture tells its times, also where it waits
+            None => self.start.is_none() && (self.is_capture || !waits),
         }
     }
 
@@ -162,8 +165,8 @@ fn waits_of(found: &ArgMatches<'_>) -> Result<Option<bool>, &'static str> {
 
 /// What the parsed command line asks for, or the text of a usage error.
 fn asked_of<'a>(found: &ArgMatches<'a>) -> Result<Asked<'a>, &'static str> {
-    if found.get_flag("pcap") || found.get_flag("look") {
-        return Err("error: --pcap and --look go together, without SETUP, DIR and other options\n");
+    if found.get_flag("look") {
+        return Err("error: --look goes with --pcap, without SETUP, DIR and other options\n");
     }
     let Ok(start) = start_of(found) else {
         return Err("error: --start expects now or microseconds since 1970-01-01 00:00:00 UTC\n");
@@ -172,6 +175,10 @@ fn asked_of<'a>(found: &ArgMatches<'a>) -> Result<Asked<'a>, &'static str> {
         return Err("error: --gap expects a number of scans, at most 4294967295\n");
     };
     let input = input_of(found)?;
+    let is_capture = found.get_flag("pcap");
+    if is_capture && !matches!(input, Input::Lines) {
+        return Err("error: --pcap cannot be combined with --raw or --frames\n");
+    }
     let waits = waits_of(found)?;
     let dated = dated_of(found, waits)?;
     let (pairs, bytes) = kept_of(found)?;
@@ -187,6 +194,7 @@ fn asked_of<'a>(found: &ArgMatches<'a>) -> Result<Asked<'a>, &'static str> {
         folder,
         kind: kind_of(found),
         input,
+        is_capture,
         start,
         waits,
         dated,
