@@ -1,6 +1,6 @@
 -- How far the course of time may be from true time.
 use Rattle.std.proofs.Common.{◌≡◌, ◌∙◌, ℕ, zero, suc, ◌+◌, ◌*◌, ◌-◌, ◌/◌, ◌<◌, ◌≤◌, min, max, true, false, refl, sym, ap, subst, inl, inr, List, [], ◌∷◌, Option, Some, arith}
-use Rattle.std.specs.Prelude.{◌==◌, nat_lt, nat_le}
+use Rattle.std.specs.Prelude.{Bool, ◌==◌, nat_lt, nat_le}
 use Rattle.std.proofs.lemmas.Nat.{div_below, le-div}
 use Rattle.std.proofs.lemmas.Bool.Decides.{nat_tests}
 use Rattle.std.proofs.lemmas.Bool.{cases_lt}
@@ -168,16 +168,16 @@ date_law t u j k last same =
     subst (λ (l : Option Dated). date_of t j ≤ not_before l era (instant_of u k)) (sym last) (kept_order (course_of t (place t.settings.rate j)).era era (date_of t j) (instant_of u k) same)
 
 -- a course that runs as the scans do
-level_at : (s : Settings) (p instant era q : ℕ) → 1 ≤ s.window → p ≤ q → instant_on s.window (level s p instant era) q ≡ instant + (q - p)
-level_at s p instant era q some more =
+level_at : (s : Settings) (p instant era : ℕ) (by : Bool) (q : ℕ) → 1 ≤ s.window → p ≤ q → instant_on s.window (level s p instant era by) q ≡ instant + (q - p)
+level_at s p instant era by q some more =
     let whole : instant + s.window - instant ≡ s.window = omega arith in
     elim (cases_lt (q - p) s.window) [
       | inl inside ↦
-          on_line s.window (level s p instant era) q inside
+          on_line s.window (level s p instant era by) q inside
           ∙ ap (λ (d : ℕ). instant + (q - p) * d / s.window) whole
           ∙ ap (λ (d : ℕ). instant + d) (mul-div_cancel (q - p) some)
       | inr outside ↦
-          let past = past_line s.window (level s p instant era) q outside in
+          let past = past_line s.window (level s p instant era by) q outside in
           omega (arith, past)
     ]
 
@@ -194,4 +194,4 @@ told_law t scans instant k fits more =
     let onward : c.at ≤ q = line_more (scans + u.answer.lost) k 1_000_000 t.settings.rate fits.some more in
     let past = (turned t u).past in
     ap (λ (d : Course). instant_on t.settings.window d q) (newest_at c past q onward)
-    ∙ level_at t.settings c.at instant c.era q fits.wide onward
+    ∙ level_at t.settings c.at instant c.era true q fits.wide onward

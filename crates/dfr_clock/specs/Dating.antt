@@ -1,5 +1,5 @@
 -- The instants of scans, and how far they drift from the clock.
-use Rattle.std.specs.Prelude.{ℕ, ℤ, pos, ◌-ℤ◌, ◌+◌, ◌*◌, ◌-◌, ◌/◌, max, ◌==◌, ◌&&◌, if◌then◌else◌, nat_lt, nat_le, List, [], ◌∷◌, take, Option, Some, None}
+use Rattle.std.specs.Prelude.{Bool, ℕ, ℤ, pos, ◌-ℤ◌, ◌+◌, ◌*◌, ◌-◌, ◌/◌, max, ◌==◌, ◌&&◌, if◌then◌else◌, nat_lt, nat_le, List, [], ◌∷◌, take, Option, Some, None}
 use Rattle.std.specs.List.{All}
 use Rattle.dfr_clock.specs.Settings.{Fits}
 use Rattle.dfr_clock.specs.Courses.{place, instant_on, course_at, IsCourse}
@@ -42,6 +42,10 @@ course_of t q = course_at t.follower.course t.past q
 -- the instant of scan k
 abbrev pub instant_of : Kept → ℕ → ℕ
 instant_of t k = instant_on t.settings.window (course_of t (place t.settings.rate k)) (place t.settings.rate k)
+
+-- whether the converter told the time by which scan k has its instant
+abbrev pub is_told_at : Kept → ℕ → Bool
+is_told_at t k = (course_of t (place t.settings.rate k)).is_told
 
 -- not before the last date, unless the clock was set between
 abbrev pub not_before : Option Dated → ℕ → ℕ → ℕ

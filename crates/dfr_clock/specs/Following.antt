@@ -47,16 +47,16 @@ lost_at s f r = lost_for s (missing_at s f r)
 abbrev pub by_clock : ℕ → ℕ → ℕ → ℕ
 by_clock p q wall = wall - (q - p)
 
--- a course that begins at place p with this instant, and runs as the scans do
-abbrev pub level : Settings → ℕ → ℕ → ℕ → Course
-level s p instant era = record { at = p; from = instant; to = instant + s.window; era = era; run = p }
+-- A course that begins at place p with this instant, and runs as the scans do. The last argument: whether the converter told the instant
+abbrev pub level : Settings → ℕ → ℕ → ℕ → Bool → Course
+level s p instant era told = record { at = p; from = instant; to = instant + s.window; era = era; run = p; is_told = told }
 
 -- begins anew: the newest scan has the instant of the clock, and the scans from `first` on are dated back from it
 abbrev pub anew : Settings → ℕ → ℕ → Reading → ℕ → Follower
 anew s first newest r era =
     let p = place s.rate first in
     let instant = by_clock p (place s.rate newest) r.wall in
-    record { course = level s p instant era; best = instant; mode = Settling; scans = newest + 1; wall = r.wall; mono = r.mono }
+    record { course = level s p instant era false; best = instant; mode = Settling; scans = newest + 1; wall = r.wall; mono = r.mono }
 
 -- so it begins with the first reading
 abbrev pub begun : Settings → Reading → Follower
@@ -73,14 +73,14 @@ best_at s f r = min f.best (by_clock f.course.at (place s.rate (r.scans - 1)) r.
 
 -- in the first window after a beginning, the course follows the least instant at once
 abbrev pub settled : Settings → Mode → Course → ℕ → Course
-settled s Settling c best = level s c.at best c.era
+settled s Settling c best = level s c.at best c.era false
 settled s Following c best = c
 settled s Told c best = c
 
 -- the course of the next window, from place q on: it goes on where this one is there, towards the goal, with bounded slew
 abbrev pub towards : Settings → ℕ → ℕ → ℕ → Course → Course
 towards s q from goal c =
-    record { at = q; from = from; to = max (from + (s.window - slewed s)) (min goal (from + s.window + slewed s)); era = c.era; run = c.run }
+    record { at = q; from = from; to = max (from + (s.window - slewed s)) (min goal (from + s.window + slewed s)); era = c.era; run = c.run; is_told = false }
 
 -- the goal is where that place would be a window later by the least instant of the window
 abbrev pub next_course : Settings → Course → ℕ → ℕ → Course
@@ -167,7 +167,7 @@ told s f scans instant =
     let p = place s.rate (scans + lost) in
     let era = if nat_lt instant due then p else f.course.era in
     record {
-      follower = record { course = level s p instant era; best = instant; mode = Told; scans = scans + lost; wall = f.wall; mono = f.mono };
+      follower = record { course = level s p instant era true; best = instant; mode = Told; scans = scans + lost; wall = f.wall; mono = f.mono };
       closed = Some f.course;
       answer = record { lost = lost; jump = told_jump s f.mode due instant };
     }

@@ -17,6 +17,8 @@ pub struct Course {
     pub era: u128,
     /// The place at which following began anew last.
     pub run: u128,
+    /// Whether the converter told the time.
+    pub is_told: bool,
 }
 
 /// The place of scan k.

@@ -238,7 +238,7 @@ impl Follower {
         let era = if instant < due { at } else { self.course.era };
         Turn {
             follower: Follower {
-                course: level(settings, at, instant, era),
+                course: level(settings, at, instant, era, true),
                 best: instant,
                 mode: Mode::Told,
                 scans,

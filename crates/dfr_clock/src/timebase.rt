@@ -61,7 +61,7 @@ impl<A: Allocator> Timebase<A> {
     ghost use Rattle.dfr_clock.specs.Settings.{settings_fault};
     ghost use Rattle.dfr_clock.specs.Courses.{IsCourse};
     ghost use Rattle.dfr_clock.specs.Following.{begun, turn, told, IsSoundTurn};
-    ghost use Rattle.dfr_clock.specs.Dating.{kept_by, turned, course_of, instant_of, date_of, dated, offset_of, drift_between, oldest_of_run};
+    ghost use Rattle.dfr_clock.specs.Dating.{kept_by, turned, course_of, instant_of, is_told_at, date_of, dated, offset_of, drift_between, oldest_of_run};
 
     /// Begins with the first reading. So many courses are kept for scans that are dated later.
     pub fn new(
@@ -163,6 +163,14 @@ impl<A: Allocator> Timebase<A> {
         let instant = Dated::not_before(self.last, era, instant);
         self.last = Some(Dated { era, instant });
         instant
+    }
+
+    /// Whether the converter told the time by which scan k has its instant.
+    pub fn is_told(&self, k: u64) -> bool
+        ensures { result ≡ is_told_at self.now k }
+    {
+        self.course_of(place(self.settings.rate, u128::from(k)))
+            .is_told
     }
 
     /// By how many microseconds the newest scan is later than by the rate alone, if scan 0 was at

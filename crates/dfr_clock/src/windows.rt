@@ -12,9 +12,15 @@ use crate::reading::{Answer, Reading};
 use crate::settings::Settings;
 
 /// A course that begins at a place with this instant, and runs as the scans do.
-pub(crate) fn level(settings: &Settings, place: u128, instant: u128, era: u128) -> Course
+pub(crate) fn level(
+    settings: &Settings,
+    place: u128,
+    instant: u128,
+    era: u128,
+    is_told: bool,
+) -> Course
     requires { instant ≤ 2 ^ 64 }
-    ensures { result ≡ spec.level settings.now place instant era }
+    ensures { result ≡ spec.level settings.now place instant era is_told }
 {
     Course {
         at: place,
@@ -22,6 +28,7 @@ pub(crate) fn level(settings: &Settings, place: u128, instant: u128, era: u128) 
         to: instant + u128::from(settings.window),
         era,
         run: place,
+        is_told,
     }
 }
 
@@ -43,7 +50,7 @@ pub(crate) fn anew(
     let at = place(settings.rate, first);
     let instant = by_clock(at, place(settings.rate, newest), reading.wall);
     Follower {
-        course: level(settings, at, instant, era),
+        course: level(settings, at, instant, era, false),
         best: instant,
         mode: Mode::Settling,
         scans: newest + 1,
@@ -70,6 +77,7 @@ fn towards(settings: &Settings, place: u128, from: u128, goal: u128, course: Cou
         to: goal.min(most).max(least),
         era: course.era,
         run: course.run,
+        is_told: false,
     }
 }
 
@@ -82,7 +90,7 @@ pub(crate) fn settled(settings: &Settings, mode: Mode, course: Course, best: u12
     ensures place { result.at ≡ course.at }
 {
     match mode {
-        Mode::Settling => level(settings, course.at, best, course.era),
+        Mode::Settling => level(settings, course.at, best, course.era, false),
         Mode::Following | Mode::Told => course,
     }
 }

@@ -10,10 +10,12 @@ use Rattle.dfr_recorder.specs.declared.record.Extent.{Extent}
 use Rattle.dfr_header.specs.Lines.{line_end, text_line, number_line, scan_line, seconds_line, parts_line}
 use Rattle.dfr_header.specs.Rules.{why_text, rules_text}
 use Rattle.dfr_header.specs.declared.clock.Clock.{Clock}
+use Rattle.dfr_header.specs.declared.clock.Dates.{Dates}
+use Rattle.dfr_header.specs.declared.clock.Dates.TheVariants.{Rate, Wall, Converter, Global, Capture}
 
 -- What a header tells of a record: the program that wrote it; the set-up, and the rules in force at the trigger, where they are known; which
 -- scans it has, and the instants of the first and of the trigger, as its configuration file has them; the form of its data; how many scans have
--- no sample, where that is known; whether the input ended before the record did; whether the clock dates it; how the clock and the scans stood
+-- no sample, where that is known; whether the input ended before the record did; what gave it its instants; how the clock and the scans stood
 -- to each other, where that is known.
 pub record HeaderParts : Type 0 where
   pub program : List ℕ
@@ -26,7 +28,7 @@ pub record HeaderParts : Type 0 where
   pub kind : Kind
   pub empty : Option ℕ
   pub is_cut : Bool
-  pub is_dated : Bool
+  pub dates : Dates
   pub clock : Option Clock
 
 -- ---- who recorded it, and with which program
@@ -90,9 +92,12 @@ unfoldable pub setup_text : HeaderParts → List ℕ
 setup_text h =
     rate_text h.layout ++ frequency_text h.layout ++ analogs_text h.layout ++ statuses_text h.layout ++ data_text h.kind
 
-abbrev pub dates_text : Bool → List ℕ
-dates_text true = codes "Instants: of the wall clock, which was followed\r\n"
-dates_text false = codes "Instants: of the first scan of the recording and the sampling rate\r\n"
+abbrev pub dates_text : Dates → List ℕ
+dates_text Rate = codes "Instants: of the first scan of the recording and the sampling rate\r\n"
+dates_text Wall = codes "Instants: of the wall clock, which was followed\r\n"
+dates_text Converter = codes "Instants: of the converter, which told the time\r\n"
+dates_text Global = codes "Instants: of the global clock of the streams (smpSynch 2)\r\n"
+dates_text Capture = codes "Instants: of the time stamps of the capture\r\n"
 
 abbrev pub offset_text : Option ℤ → List ℕ
 offset_text None = []
@@ -115,7 +120,7 @@ clock_text (Some c) = state_text c
 
 unfoldable pub making_text : HeaderParts → List ℕ
 making_text h =
-    setup_text h ++ line_end ++ (dates_text h.is_dated ++ clock_text h.clock) ++ line_end ++ rules_text h.layout h.rules
+    setup_text h ++ line_end ++ (dates_text h.dates ++ clock_text h.clock) ++ line_end ++ rules_text h.layout h.rules
 
 -- ---- all of it
 

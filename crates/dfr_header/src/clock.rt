@@ -7,6 +7,21 @@ use crate::lines::{put_parts_line, put_seconds_line};
 use comtrade_values::put;
 use std::alloc::{AllocError, Allocator};
 
+/// What gave a record its instants.
+#[derive(Clone, Copy, Debug, PartialEq, Eq)]
+pub enum Dates {
+    /// The instant of the first scan of the recording, and the sampling rate.
+    Rate,
+    /// The wall clock of the machine, which was followed.
+    Wall,
+    /// The converter, which told the time with its scans.
+    Converter,
+    /// The global clock to which the streams of a process bus say they are synchronised.
+    Global,
+    /// The time stamps of a capture.
+    Capture,
+}
+
 /// How the wall clock and the scans stood to each other when a header was made.
 #[derive(Clone, Copy, Debug, PartialEq, Eq)]
 pub struct Clock {
@@ -77,27 +92,32 @@ fn put_clock<A: Allocator>(out: &mut Vec<u8, A>, clock: Option<Clock>) -> Result
     }
 }
 
-fn put_dates<A: Allocator>(out: &mut Vec<u8, A>, is_dated: bool) -> Result<(), AllocError>
-    ensures { OnOk result (out.new.items ≡ out.old.items ++ spec.dates_text is_dated) }
+fn put_dates<A: Allocator>(out: &mut Vec<u8, A>, dates: Dates) -> Result<(), AllocError>
+    ensures { OnOk result (out.new.items ≡ out.old.items ++ spec.dates_text dates) }
 {
-    if is_dated {
-        put(out, "Instants: of the wall clock, which was followed\r\n")
-    } else {
-        put(
+    match dates {
+        Dates::Rate => put(
             out,
             "Instants: of the first scan of the recording and the sampling rate\r\n",
-        )
+        ),
+        Dates::Wall => put(out, "Instants: of the wall clock, which was followed\r\n"),
+        Dates::Converter => put(out, "Instants: of the converter, which told the time\r\n"),
+        Dates::Global => put(
+            out,
+            "Instants: of the global clock of the streams (smpSynch 2)\r\n",
+        ),
+        Dates::Capture => put(out, "Instants: of the time stamps of the capture\r\n"),
     }
 }
 
 /// Appends what the instants are, and how the clock stood.
 pub(crate) fn put_time<A: Allocator>(
     out: &mut Vec<u8, A>,
-    is_dated: bool,
+    dates: Dates,
     clock: Option<Clock>,
 ) -> Result<(), AllocError>
-    ensures { OnOk result (out.new.items ≡ out.old.items ++ (spec.dates_text is_dated ++ spec.clock_text clock)) }
+    ensures { OnOk result (out.new.items ≡ out.old.items ++ (spec.dates_text dates ++ spec.clock_text clock)) }
 {
-    put_dates(out, is_dated)?;
+    put_dates(out, dates)?;
     put_clock(out, clock)
 }

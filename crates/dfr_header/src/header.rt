@@ -5,7 +5,7 @@ ghost use Rattle.comtrade_format.specs.Cfg.{kind_text};
 ghost use Rattle.comtrade_values.specs.Written.{decimal_text};
 ghost use Rattle.dfr_header.specs.Headers as spec;
 
-use crate::clock::{Clock, put_time};
+use crate::clock::{Clock, Dates, put_time};
 use crate::lines::{end_line, put_number_line, put_text_line};
 use crate::record::{put_losses, put_reason, put_scans};
 use crate::rules::put_rules;
@@ -39,8 +39,8 @@ pub struct Header<'a, A: Allocator = Global> {
     pub empty: Option<u64>,
     /// Whether the input ended before the record did.
     pub is_cut: bool,
-    /// Whether the clock dates the record.
-    pub is_dated: bool,
+    /// What gave the record its instants.
+    pub dates: Dates,
     /// How the clock and the scans stand to each other, if that is known.
     pub clock: Option<Clock>,
 }
@@ -62,7 +62,7 @@ impl<'a, A: Allocator> Model for Header<'a, A> {
       kind = h.kind;
       empty = h.empty;
       is_cut = h.is_cut;
-      is_dated = h.is_dated;
+      dates = h.dates;
       clock = h.clock;
     } };
 }
@@ -176,7 +176,7 @@ fn put_making<A: Allocator>(out: &mut Vec<u8, A>, header: &Header<'_, A>) -> Res
 {
     put_setup(out, header)?;
     end_line(out)?;
-    put_time(out, header.is_dated, header.clock)?;
+    put_time(out, header.dates, header.clock)?;
     end_line(out)?;
     put_rules(out, header.layout, header.rules)?;
     Ok(())

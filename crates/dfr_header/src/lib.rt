@@ -8,6 +8,6 @@ mod record;
 mod rows;
 mod rules;
 
-pub use clock::Clock;
+pub use clock::{Clock, Dates};
 pub use header::{Header, put_header};
 pub use rows::rows_without_samples;

@@ -1,5 +1,5 @@
 -- What the header of a record tells.
-use Rattle.std.specs.Prelude.{ℕ, ℤ, List, length, Bool, Option, Some, None, is_some, option_map, option_and_then}
+use Rattle.std.specs.Prelude.{ℕ, ℤ, List, length, Bool, true, false, Option, Some, None, option_map, option_and_then}
 use Rattle.comtrade_format.specs.declared.file.Kind.{Kind}
 use Rattle.dfr_channels.specs.Parts.{SetupParts}
 use Rattle.dfr_channels.specs.Scans.{instant_of}
@@ -7,11 +7,14 @@ use Rattle.dfr_channels.specs.declared.rule.Rule.{Rule}
 use Rattle.dfr_header.specs.Headers.{HeaderParts}
 use Rattle.dfr_header.specs.Rows.{rows_without_samples}
 use Rattle.dfr_header.specs.declared.clock.Clock.{Clock}
+use Rattle.dfr_header.specs.declared.clock.Dates.{Dates}
+use Rattle.dfr_header.specs.declared.clock.Dates.TheVariants.{Rate}
 use Rattle.dfr_recorder.specs.declared.record.Extent.{Extent}
 use Rattle.dfr_station.specs.Names.{trigger_shown}
 use Rattle.dfr_station.specs.declared.event.ClockState.{ClockState}
 use Rattle.dfr_station.specs.declared.event.Followed.{Followed}
 use Rattle.dfr_station.specs.declared.heading.About.{About}
+use Rattle.dfr_station.specs.declared.headers.Sources.{Sources}
 use Rattle.dfr_station.specs.declared.shown.Redated.{Redated}
 
 -- the instant of a record's first scan as it is shown
@@ -27,9 +30,15 @@ clock_of s = record {
   drift = option_and_then (λ (f : Followed). f.drift) s.followed;
 }
 
+-- what gave a record its instants: the rate, unless it has a date; then the converter if it told the time, or the clock that was followed
+abbrev pub dates_of : Sources → Option Redated → Bool → Dates
+dates_of s None told = Rate
+dates_of s (Some r) true = s.told
+dates_of s (Some r) false = s.followed
+
 -- the header of a record whose data file is this one
-abbrev pub header_of : (program version : List ℕ) → SetupParts → Option (List Rule) → About → List ℕ → HeaderParts
-header_of program version layout rules about dat = record {
+abbrev pub header_of : (program version : List ℕ) → Sources → SetupParts → Option (List Rule) → About → List ℕ → HeaderParts
+header_of program version sources layout rules about dat = record {
   program = program;
   version = version;
   layout = layout;
@@ -40,6 +49,6 @@ header_of program version layout rules about dat = record {
   kind = about.kind;
   empty = rows_without_samples about.kind (length layout.analog) (length layout.status) dat;
   is_cut = about.is_cut;
-  is_dated = is_some about.redated;
+  dates = dates_of sources about.redated about.is_told;
   clock = option_map clock_of about.clock;
 }

@@ -7,7 +7,7 @@ ghost use Rattle.dfr_live.specs.Devices.{files_of};
 ghost use Rattle.dfr_station.specs.Dated.{layout_under, last_shown, Changes};
 ghost use Rattle.dfr_station.specs.Finishing.{LosesScan, LosesScans, TriedLast, TriesLast, WritesLast, FinishesOpen, EndsOpen, Finishes, counted_last};
 
-use crate::event::{ClockState, Event, Trouble};
+use crate::event::{Event, Trouble};
 use crate::headers::Headers;
 use crate::heading::{About, bytes_of, header_for};
 use crate::intake::{Counts, Recorded};
@@ -16,7 +16,7 @@ use crate::outlet::{LAST_TRIES, pause_before};
 use crate::run::{ended_event, print_one};
 use crate::shown::{Redated, redated_by, shown_cfg};
 use crate::station::{Printer, Store, Stored};
-use crate::times::clock_state;
+use crate::times::{Clocked, clock_state, is_told};
 use comtrade_write::{Kind, pair_of};
 use dfr_channels::Layout;
 use dfr_clock::Timebase;
@@ -78,7 +78,7 @@ fn hand_over<K: Store, A: Allocator + Copy, R: Wait>(
     rt: &R,
     alloc: A,
     headers: Option<&Headers<A>>,
-    clock: Option<ClockState>,
+    clock: Clocked,
     layout: &Layout<A>,
     kind: Kind,
     taken: &Record<A>,
@@ -99,7 +99,8 @@ fn hand_over<K: Store, A: Allocator + Copy, R: Wait>(
         extent: taken.extent(),
         redated,
         kind,
-        clock,
+        clock: clock.state,
+        is_told: clock.is_told,
         is_cut: true,
     };
     let Ok(header) = header_for(rt, alloc, headers, layout, about, &pair.dat) else {
@@ -121,7 +122,7 @@ fn stored<A: Allocator + Copy, K: Store, P: Printer, R: Wait + Clock>(
     rt: &R,
     alloc: A,
     headers: Option<&Headers<A>>,
-    clock: Option<ClockState>,
+    clock: Clocked,
     layout: &Layout<A>,
     kind: Kind,
     taken: &Record<A>,
@@ -199,7 +200,7 @@ fn written<A: Allocator + Copy, K: Store, P: Printer, R: Wait + Clock>(
     kind: Kind,
     taken: &Record<A>,
     redated: Option<Redated>,
-    clock: Option<ClockState>,
+    clock: Clocked,
     counts: Counts,
     store: &mut K,
     printer: &mut P,
@@ -218,7 +219,7 @@ fn written<A: Allocator + Copy, K: Store, P: Printer, R: Wait + Clock>(
             let record = Event::Record {
                 extent,
                 key: stored.key,
-                clock,
+                clock: clock.state,
                 is_cut: true,
             };
             print_one(rt, printer, record);
@@ -262,7 +263,10 @@ fn with_open<A: Allocator + Copy, K: Store, P: Printer, R: Wait + Clock>(
     {
         let layout = recorder.layout();
         let redated = last_redated(layout, taken.extent(), times);
-        let clock = clock_state(counts.clock, layout.start(), times.as_ref());
+        let clock = Clocked {
+            state: clock_state(counts.clock, layout.start(), times.as_ref()),
+            is_told: is_told(times.as_ref(), taken.extent().trigger),
+        };
         return written(
             rt, alloc, headers, layout, kind, &taken, redated, clock, counts, store, printer,
         );

@@ -4,6 +4,7 @@
 use crate::in_force::{Book, Set};
 use comtrade_values::Memory;
 use dfr_channels::Rules;
+use dfr_header::Dates;
 use dfr_live::{Order, Reply};
 use std::alloc::{Allocator, Global};
 use std::sync::atomic::{AtomicBool, Ordering};
@@ -12,12 +13,22 @@ use std::sync::{Mutex, Wait};
 /// How often the trigger thread tries to note rules. The export has the book for some microseconds.
 const TRIES: u32 = 1_000_000;
 
+/// What gives the records of a recording their dates.
+#[derive(Clone, Copy, Debug, PartialEq, Eq)]
+pub struct Sources {
+    /// Where a clock is followed.
+    pub followed: Dates,
+    /// Where the input told the time.
+    pub told: Dates,
+}
+
 /// What the headers of a recording's records tell beside the record.
 #[derive(Drop)]
 pub struct Headers<A: Allocator = Global> {
     /// The program that makes the recording.
     pub(crate) program: &'static str,
     pub(crate) version: &'static str,
+    pub(crate) sources: Sources,
     book: Mutex<Book<A>>,
     /// Rules were set and could not be noted, so that none are known any more.
     is_lost: AtomicBool,
@@ -44,6 +55,7 @@ impl<A: Allocator + Copy> Headers<A> {
         alloc: A,
         program: &'static str,
         version: &'static str,
+        sources: Sources,
         rules: &Rules<A>,
     ) -> Result<Headers<A>, Memory> {
         let rules = rules.try_clone()?;
@@ -51,6 +63,7 @@ impl<A: Allocator + Copy> Headers<A> {
         Ok(Headers {
             program,
             version,
+            sources,
             book: Mutex::new(book),
             is_lost: AtomicBool::new(false),
         })

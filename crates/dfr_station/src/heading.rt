@@ -6,13 +6,13 @@ ghost use Rattle.dfr_header.specs.Rows as rows;
 ghost use Rattle.dfr_station.specs.Headed as spec;
 
 use crate::event::ClockState;
-use crate::headers::Headers;
+use crate::headers::{Headers, Sources};
 use crate::naming::trigger_shown;
 use crate::shown::Redated;
 use comtrade_values::Memory;
 use comtrade_write::Kind;
 use dfr_channels::{Layout, Rule, Rules};
-use dfr_header::{Clock, Header, put_header, rows_without_samples};
+use dfr_header::{Clock, Dates, Header, put_header, rows_without_samples};
 use dfr_recorder::Extent;
 use std::alloc::{AllocError, Allocator};
 use std::sync::Wait;
@@ -25,6 +25,8 @@ pub(crate) struct About {
     pub(crate) redated: Option<Redated>,
     pub(crate) kind: Kind,
     pub(crate) clock: Option<ClockState>,
+    /// The converter told the time by which its trigger has a date.
+    pub(crate) is_told: bool,
     /// It was closed with lost scans after the input ended.
     pub(crate) is_cut: bool,
 }
@@ -40,6 +42,17 @@ fn first_shown<A: Allocator>(
     match redated {
         Some(redated) => Some(redated.is.first),
         None => layout.instant(extent.first),
+    }
+}
+
+/// What gave a record its instants.
+fn dates_of(sources: Sources, redated: Option<Redated>, is_told: bool) -> Dates
+    ensures { result ≡ spec.dates_of sources redated is_told }
+{
+    match redated {
+        None => Dates::Rate,
+        Some(_) if is_told => sources.told,
+        Some(_) => sources.followed,
     }
 }
 
@@ -101,13 +114,14 @@ fn header_of<A: Allocator + Copy>(
     alloc: A,
     program: &str,
     version: &str,
+    sources: Sources,
     layout: &Layout<A>,
     rules: Option<&Rules<A>>,
     about: About,
     dat: &[u8],
 ) -> Result<Vec<u8, A>, AllocError>
     ensures { IfOk result (λ text. text.items ≡ header_text
-        (spec.header_of program.now version.now layout.now (option_copied rules.entry) about dat.now)) }
+        (spec.header_of program.now version.now sources layout.now (option_copied rules.entry) about dat.now)) }
 {
     let header = Header {
         program,
@@ -120,7 +134,7 @@ fn header_of<A: Allocator + Copy>(
         kind: about.kind,
         empty: empty_rows(alloc, layout, about.kind, dat)?,
         is_cut: about.is_cut,
-        is_dated: about.redated.is_some(),
+        dates: dates_of(sources, about.redated, about.is_told),
         clock: clock_in(about.clock),
     };
     let mut text = Vec::new(alloc);
@@ -145,6 +159,7 @@ pub(crate) fn header_for<A: Allocator + Copy, R: Wait>(
         alloc,
         headers.program,
         headers.version,
+        headers.sources,
         layout,
         rules.as_ref(),
         about,

@@ -42,11 +42,12 @@ mod trying;
 mod watch;
 
 pub use dfr_folder::Key;
+pub use dfr_header::Dates;
 pub use dfr_sequence::{Change, Flip, Place};
 pub use event::{Asked, ClockState, Event, Followed, Replied, Skipped, Trouble};
 pub use finish::finish_station;
 pub use first::{First, read_first};
-pub use headers::Headers;
+pub use headers::{Headers, Sources};
 pub use intake::{
     Buffer, Counts, ROOM, Recorded, RunFault, Why, frame_len, is_damaged, is_scan_line,
     scan_of_frame,

@@ -25,6 +25,14 @@ impl<K, R: Wait + Clock, A: Allocator + Copy> Exports<'_, K, R, A> {
         redated_by(self.layout, extent, date)
     }
 
+    /// Whether the converter told the time by which its trigger has a date.
+    fn is_told(&self, extent: Extent) -> bool {
+        match self.times {
+            Some(times) => times.lock(self.rt).is_told(extent.trigger),
+            None => false,
+        }
+    }
+
     /// A configuration file after this change. As long as there is no memory, it is tried again; after
     /// the input has ended, a few times in all.
     fn changed(&mut self, redated: Redated, cfg: &[u8]) -> Option<Vec<u8, A>>
@@ -72,6 +80,7 @@ impl<K, R: Wait + Clock, A: Allocator + Copy> Exports<'_, K, R, A> {
             redated,
             kind: self.kind,
             clock: self.clock_state(),
+            is_told: self.is_told(extent),
             is_cut: false,
         };
         for tries in 0..LAST_TRIES {

@@ -115,3 +115,19 @@ pub(crate) fn clock_state<A: Allocator>(
     };
     Some(ClockState { ahead, followed })
 }
+
+/// What is known of the clock when a record is written.
+#[derive(Clone, Copy)]
+pub(crate) struct Clocked {
+    pub(crate) state: Option<ClockState>,
+    /// The converter told the time by which the record's trigger has a date.
+    pub(crate) is_told: bool,
+}
+
+/// Whether the converter told the time by which scan k has a date.
+pub(crate) fn is_told<A: Allocator>(times: Option<&Timebase<A>>, k: u64) -> bool {
+    match times {
+        Some(timebase) => timebase.is_told(k),
+        None => false,
+    }
+}

@@ -2,10 +2,11 @@
 
 use crate::outcome::{complain, out_of_memory};
 use crate::words::Asked;
-use dfr_capture::Plan;
+use dfr_capture::{Dating, Plan};
 use dfr_channels::Layout;
 use dfr_convert::CaptureLines;
 use dfr_plan::plan_of;
+use dfr_station::Dates;
 use std::alloc::{AllocError, Global};
 use std::io;
 use std::io::Read;
@@ -43,6 +44,16 @@ impl FirstTime {
 pub(crate) struct Bus {
     plan: Plan,
     first: FirstTime,
+}
+
+impl Bus {
+    /// What the times are of that the lines of the capture tell.
+    pub(crate) fn told(&self) -> Dates {
+        match self.plan.dating {
+            Dating::Synchronised => Dates::Global,
+            Dating::Stamps => Dates::Capture,
+        }
+    }
 }
 
 /// The lines of a capture, of which it is told when the first scan came.

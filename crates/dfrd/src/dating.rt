@@ -1,11 +1,12 @@
 //! What dates the scans: the machine's clock, the capture, or the set-up alone.
 
-ghost use Rattle.std.specs.Prelude.{◌≡◌, ◌+◌, ◌*◌, ◌/◌, pos};
+ghost use Rattle.std.specs.Prelude.{◌≡◌, ◌+◌, ◌*◌, ◌/◌, pos, is_some, if◌then◌else◌};
+ghost use Rattle.dfr_header.specs.declared.clock.Dates.TheVariants.{Wall, Capture};
 
 use crate::record::Plan;
 use crate::words::Asked;
 use dfr_clock::Reading;
-use dfr_station::{Event, First, Printer, now};
+use dfr_station::{Dates, Event, First, Printer, Sources, now};
 use std::alloc::Global;
 use std::sync::Wait;
 use std::time::Clock;
@@ -39,8 +40,23 @@ fn stored_at<R: Wait>(rt: &R, plan: &Plan, waits: bool) -> Option<u64> {
     }
 }
 
+/// What gives records their dates, where the first scan of a stored capture came at this nanosecond.
+fn sources_of(told: Dates, stored: Option<u64>) -> Sources
+    ensures told { result.told ≡ told }
+    ensures followed { result.followed ≡ (if is_some stored then Capture else Wall) }
+{
+    Sources {
+        followed: if stored.is_some() {
+            Dates::Capture
+        } else {
+            Dates::Wall
+        },
+        told,
+    }
+}
+
 /// Decides what dates the scans. Returns the instant of scan 0, in microseconds since 1970-01-01
-/// 00:00:00 UTC.
+/// 00:00:00 UTC, and what gives records their dates.
 pub(crate) fn date<P: Printer, R: Wait + Clock>(
     rt: &R,
     asked: &Asked<'_>,
@@ -48,7 +64,7 @@ pub(crate) fn date<P: Printer, R: Wait + Clock>(
     waits: bool,
     first: &mut First<Global>,
     printer: &mut P,
-) -> i64 {
+) -> (i64, Sources) {
     let stored = stored_at(rt, plan, waits);
     if !asked.has_dates(waits) {
         first.clocks = None;
@@ -57,9 +73,10 @@ pub(crate) fn date<P: Printer, R: Wait + Clock>(
     } else if !first.is_followed() && !first.is_empty() {
         printer.print(now(rt), Event::Undated);
     }
-    match (asked.start, stored) {
+    let start = match (asked.start, stored) {
         (Some(start), _) => start,
         (None, Some(time)) => micros_of(time),
         (None, None) => first.start(plan.rate),
-    }
+    };
+    (start, sources_of(plan.told, stored))
 }

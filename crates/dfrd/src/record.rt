@@ -17,7 +17,8 @@ use dfr_folder::Keep;
 use dfr_health::put_escaped;
 use dfr_setup::{Prepared, prepared_of};
 use dfr_station::{
-    Control, Headers, Input, Printer, Run, Station, Store, finish_station, read_first, run_station,
+    Control, Dates, Headers, Input, Printer, Run, Sources, Station, Store, finish_station,
+    read_first, run_station,
 };
 use std::alloc::Global;
 use std::fs;
@@ -48,6 +49,8 @@ pub(crate) struct Plan {
     pub(crate) bus: Option<Bus>,
     /// When the first scan of a capture came, once it did.
     pub(crate) first: Option<FirstTime>,
+    /// What the times are of that the input tells.
+    pub(crate) told: Dates,
     ghost sized: { 0 < frame },
 }
 
@@ -149,6 +152,7 @@ pub(crate) fn plan_of<R: Files<File = File> + Print + Eprint + AllocGlobal>(
                 frame,
                 rate,
                 station,
+                told: bus.as_ref().map_or(Dates::Converter, Bus::told),
                 bus,
                 first,
             })
@@ -223,12 +227,13 @@ fn headers_of<R: AllocGlobal>(
     rt: &R,
     asked: &Asked<'_>,
     prepared: &Prepared<Global>,
+    sources: Sources,
 ) -> Result<Option<Headers>, Memory> {
     if !asked.has_headers {
         return Ok(None);
     }
     let rules = prepared.recorder.rules();
-    Ok(Some(Headers::new(rt.alloc(), "dfrd", version(), rules)?))
+    Ok(Some(Headers::new(rt.alloc(), "dfrd", version(), sources, rules)?))
 }
 
 /// Records until the input ends. Returns the exit status: 1 if no scan came, the input couldn't be
@@ -252,10 +257,10 @@ pub(crate) fn record<
         return out_of_memory(rt);
     };
     let waits = waits(rt, asked);
-    let start = date(rt, asked, plan, waits, &mut first, printer);
+    let (start, sources) = date(rt, asked, plan, waits, &mut first, printer);
     match prepared_of(rt.alloc(), &plan.setup, start) {
         Ok(prepared) => {
-            let Ok(headers) = headers_of(rt, asked, &prepared) else {
+            let Ok(headers) = headers_of(rt, asked, &prepared, sources) else {
                 return out_of_memory(rt);
             };
             let (alloc, headers) = (rt.alloc(), headers.as_ref());
