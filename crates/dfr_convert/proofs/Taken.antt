@@ -20,7 +20,8 @@ use Rattle.dfr_capture.specs.Recordings as recordings
 use Rattle.dfr_capture.specs.Recordings.{Came, came_at, FeedParts, IsKept, IsFed, IsTaken, lines, events, missing}
 use Rattle.dfr_convert.specs.declared.conversion.Stop.{Stop}
 use Rattle.dfr_convert.specs.declared.conversion.Stop.TheVariants.{Memory, Damaged, Time, Long}
-use Rattle.dfr_convert.specs.Conversions.{Kept, kept, ArePast, Past, frame_of, frames_of, IsSoFar, HasGrown, Takes, TakesUpTo, TakesPiece, TakesIn}
+use Rattle.dfr_convert.specs.Conversions.{Kept, kept, State, state, ArePast, Past, frame_of, frames_of, IsSoFar, IsFirst, HasGrown, noted, Takes, TakesUpTo, TakesPiece, TakesIn}
+use Rattle.dfr_convert.proofs.Known.{first_after}
 use Rattle.dfr_convert.proofs.Slices.{slice_moved, past_stays, frames_stay}
 
 -- ---- growing
@@ -35,39 +36,46 @@ twice {X = X} a b c was mid now g h = record {
   source_grew = h.source_grew ∙ ap (λ (zs : List X). zs ++ h.given) g.source_grew ∙ append_assoc was g.given h.given;
 }
 
-grown_none : (p : PlanParts) (was : List Came) (feed : FeedParts) → HasGrown p was was feed feed
-grown_none p was feed = record {
+grown_none : (p : PlanParts) (was : List Came) (feed : FeedParts) (first : Option ℕ) → HasGrown p was was feed feed first first
+grown_none p was feed first = record {
   lines = stays feed.lines (lines p was);
   events = stays feed.events (events p was);
   missing = stays feed.missing (missing p was);
+  first = λ is. is;
 }
 
-grown_twice : (p : PlanParts) (was mid now : List Came) (a b c : FeedParts) → HasGrown p was mid a b → HasGrown p mid now b c → HasGrown p was now a c
-grown_twice p was mid now a b c g h = record {
+grown_twice : (p : PlanParts) (was mid now : List Came) (a b c : FeedParts) (x y z : Option ℕ) → HasGrown p was mid a b x y → HasGrown p mid now b c y z
+    → HasGrown p was now a c x z
+grown_twice p was mid now a b c x y z g h = record {
   lines = twice a.lines b.lines c.lines (lines p was) (lines p mid) (lines p now) g.lines h.lines;
   events = twice a.events b.events c.events (events p was) (events p mid) (events p now) g.events h.events;
   missing = twice a.missing b.missing c.missing (missing p was) (missing p mid) (missing p now) g.missing h.missing;
+  first = λ is. h.first (g.first is);
 }
 
 -- ---- none, and more of them
 
-pub takes_none : (k : Kept) (feed : FeedParts) → Takes k feed k feed
-takes_none k feed came past so = record { more = []; kept = so; grown = grown_none k.recorder.plan (frames_of came past) feed; plan = refl }
+pub takes_none : (s : State) → Takes s s
+takes_none s came past so =
+    record { more = []; kept = so; grown = grown_none s.kept.recorder.plan (frames_of came past) s.feed s.first; plan = refl }
 
-pub takes_on : (a b c : Kept) (f g h : FeedParts) → Takes a f b g → Takes b g c h → Takes a f c h
-takes_on a b c f g h one two came past so =
+pub takes_on : (a b c : State) → Takes a b → Takes b c → Takes a c
+takes_on a b c one two came past so =
     let m = one came past so in
     let n = two came (m.more ++ past) m.kept in
     let e : n.more ++ (m.more ++ past) ≡ (n.more ++ m.more) ++ past = sym (append_assoc n.more m.more past) in
-    let p = a.recorder.plan in
-    let grown : HasGrown p (frames_of came (m.more ++ past)) (frames_of came (n.more ++ (m.more ++ past))) g h =
-    subst (λ (q : PlanParts). HasGrown q (frames_of came (m.more ++ past)) (frames_of came (n.more ++ (m.more ++ past))) g h) m.plan n.grown in
-    let all : HasGrown p (frames_of came past) (frames_of came (n.more ++ (m.more ++ past))) f h =
-    grown_twice p (frames_of came past) (frames_of came (m.more ++ past)) (frames_of came (n.more ++ (m.more ++ past))) f g h m.grown grown in
+    let p = a.kept.recorder.plan in
+    let Grown : PlanParts → (was now : List packet.Packet) → State → State → Type 0 =
+    λ q was now s t. HasGrown q (frames_of came was) (frames_of came now) s.feed t.feed s.first t.first in
+    let grown : Grown p (m.more ++ past) (n.more ++ (m.more ++ past)) b c =
+    subst (λ (q : PlanParts). Grown q (m.more ++ past) (n.more ++ (m.more ++ past)) b c) m.plan n.grown in
+    let all : Grown p past (n.more ++ (m.more ++ past)) a c =
+    grown_twice p (frames_of came past) (frames_of came (m.more ++ past)) (frames_of came (n.more ++ (m.more ++ past))) a.feed b.feed c.feed
+    a.first b.first c.first m.grown grown in
     record {
       more = n.more ++ m.more;
-      kept = subst (λ (all : List packet.Packet). IsSoFar came all c) e n.kept;
-      grown = subst (λ (all : List packet.Packet). HasGrown p (frames_of came past) (frames_of came all) f h) e all;
+      kept = subst (λ (all : List packet.Packet). IsSoFar came all c.kept) e n.kept;
+      grown = subst (λ (all : List packet.Packet). Grown p past all a c) e all;
       plan = n.plan ∙ m.plan;
     }
 
@@ -119,15 +127,26 @@ frame_is came bytes at p time left is =
     ap (λ (b : List ℕ). slice_range b p.content.from p.content.to) left ∙ slice_moved came at p.content.from p.content.to in
     ap (λ (b : List ℕ). came_at b time) part ∙ ap (λ (t : ℕ). came_at (slice_range came (at + p.content.from) (at + p.content.to)) t) (sym is)
 
-fed_grown : (p : PlanParts) (c : Came) (past : List Came) (before after : FeedParts) → IsFed p c past before after → HasGrown p past (c ∷ past) before after
-fed_grown p c past before after fed = record { lines = fed.lines; events = fed.events; missing = fed.missing }
+fed_grown : (p : PlanParts) (c : Came) (past : List Came) (before after : FeedParts) (x y : Option ℕ) → IsFed p c past before after
+    → y ≡ noted x after.lines c.time → HasGrown p past (c ∷ past) before after x y
+fed_grown p c past before after x y fed is = record {
+  lines = fed.lines;
+  events = fed.events;
+  missing = fed.missing;
+  first = λ (was : IsFirst p past before x). first_after p c past before after x y fed.lines is was;
+}
 
-one_of : (old : PiecesParts) (r new : recordings.Kept) (p : packet.Packet) (time : ℕ) (before after : FeedParts) (o : Option Capture) → old.capture ≡ o
+-- one packet more, and when the first lines came then
+abbrev OneMore : (old : PiecesParts) (r new : recordings.Kept) (p : packet.Packet) (before after : FeedParts) (x y : Option ℕ) → Type 0
+OneMore old r new p before after x y = Takes (state (kept old r) before x) (state (kept (passed p.content.to old) new) after y)
+
+one_of : (old : PiecesParts) (r new : recordings.Kept) (p : packet.Packet) (time : ℕ) (before after : FeedParts) (x y : Option ℕ) (o : Option Capture) → old.capture ≡ o
     → step_in old.passed o old.bytes ≡ steps.Packet p → p.seconds * 1_000_000_000 + p.nanoseconds ≡ time
     → IsTaken r (came_at (slice_range old.bytes p.content.from p.content.to) time) before after new → p.content.to ≤ length old.bytes
-    → Takes (kept old r) before (kept (passed p.content.to old) new) after
-one_of old r new p time before after None e is at taken le came past so = absurd (of_head_is old.passed (head_at old.bytes (length old.bytes)) p is)
-one_of old r new p time before after (Some c) e is at taken le came past so =
+    → y ≡ noted x after.lines (p.seconds * 1_000_000_000 + p.nanoseconds)
+    → OneMore old r new p before after x y
+one_of old r new p time before after x y None e is at taken le first came past so = absurd (of_head_is old.passed (head_at old.bytes (length old.bytes)) p is)
+one_of old r new p time before after x y (Some c) e is at taken le first came past so =
     let q = forth old.passed p in
     let read : packet_in c old.bytes ≡ Ok p = of_packet_is old.passed (packet_in c old.bytes) p is in
     let there : packet_in c (drop old.passed came) ≡ Ok p = ap (λ (b : List ℕ). packet_in c b) (sym so.pieces.left) ∙ read in
@@ -145,15 +164,16 @@ one_of old r new p time before after (Some c) e is at taken le came past so =
         packets = subst (λ (x : Option Capture). Past x came (old.passed + p.content.to) (q ∷ past)) (sym e) now;
         frames = g.1;
       };
-      grown = fed_grown r.plan (frame_of came q) (frames_of came past) before after g.0;
+      grown = fed_grown r.plan (frame_of came q) (frames_of came past) before after x y g.0 first;
       plan = g.2;
     }
 
-pub one_packet : (old : PiecesParts) (r new : recordings.Kept) (p : packet.Packet) (time : ℕ) (before after : FeedParts)
+pub one_packet : (old : PiecesParts) (r new : recordings.Kept) (p : packet.Packet) (time : ℕ) (before after : FeedParts) (x y : Option ℕ)
     → step old ≡ steps.Packet p → p.seconds * 1_000_000_000 + p.nanoseconds ≡ time
     → IsTaken r (came_at (slice_range old.bytes p.content.from p.content.to) time) before after new → p.content.to ≤ length old.bytes
-    → Takes (kept old r) before (kept (passed p.content.to old) new) after
-one_packet old r new p time before after is at taken le = one_of old r new p time before after old.capture refl is at taken le
+    → y ≡ noted x after.lines (p.seconds * 1_000_000_000 + p.nanoseconds)
+    → OneMore old r new p before after x y
+one_packet old r new p time before after x y is at taken le first = one_of old r new p time before after x y old.capture refl is at taken le first
 
 abbrev HasSome : Option ℕ → Type 0
 HasSome (Some n) = Unit {0}
@@ -171,24 +191,27 @@ time_is all time h =
     ]
 
 -- the same, of what the code has of it
-pub one_packet_of : (old now : PiecesParts) (r new : recordings.Kept) (p : packet.Packet) (time : ℕ) (bytes : List ℕ) (before after : FeedParts)
+pub one_packet_of : (old now : PiecesParts) (r new : recordings.Kept) (p : packet.Packet) (time : ℕ) (bytes : List ℕ) (before after : FeedParts) (x y : Option ℕ)
     → step old ≡ steps.Packet p → Some time ≡ nanosecond p → bytes ≡ old.bytes → p.content.to ≤ length old.bytes
     → IsTaken r (came_at (slice_range bytes p.content.from p.content.to) time) before after new → now ≡ passed p.content.to old
-    → Takes (kept old r) before (kept now new) after
-one_packet_of old now r new p time bytes before after is at same le taken gone =
+    → y ≡ noted x after.lines time
+    → Takes (state (kept old r) before x) (state (kept now new) after y)
+one_packet_of old now r new p time bytes before after x y is at same le taken gone first =
     let all = p.seconds * 1_000_000_000 + p.nanoseconds in
     let t : IsTaken r (came_at (slice_range old.bytes p.content.from p.content.to) time) before after new =
     subst (λ (b : List ℕ). IsTaken r (came_at (slice_range b p.content.from p.content.to) time) before after new) same taken in
-    subst (λ (n : PiecesParts). Takes (kept old r) before (kept n new) after) (sym gone)
-    (one_packet old r new p time before after is (time_is all time at) t le)
+    let e : all ≡ time = time_is all time at in
+    let f : y ≡ noted x after.lines all = first ∙ ap (λ (t : ℕ). noted x after.lines t) (sym e) in
+    subst (λ (n : PiecesParts). Takes (state (kept old r) before x) (state (kept n new) after y)) (sym gone)
+    (one_packet old r new p time before after x y is e t le f)
 
 -- after others
-pub up_to_on : (r : Result (Unit {0}) Stop) (a b c : Kept) (f g h : FeedParts) → Takes a f b g → TakesUpTo r b g c h → TakesUpTo r a f c h
-up_to_on (Ok u) a b c f g h one two = takes_on a b c f g h one two
-up_to_on (Err Memory) a b c f g h one two = tt
-up_to_on (Err (Damaged at w)) a b c f g h one two = takes_on a b c f g h one two
-up_to_on (Err Time) a b c f g h one two = takes_on a b c f g h one two
-up_to_on (Err Long) a b c f g h one two = takes_on a b c f g h one two
+pub up_to_on : (r : Result (Unit {0}) Stop) (a b c : State) → Takes a b → TakesUpTo r b c → TakesUpTo r a c
+up_to_on (Ok u) a b c one two = takes_on a b c one two
+up_to_on (Err Memory) a b c one two = tt
+up_to_on (Err (Damaged at w)) a b c one two = takes_on a b c one two
+up_to_on (Err Time) a b c one two = takes_on a b c one two
+up_to_on (Err Long) a b c one two = takes_on a b c one two
 
 -- ---- a piece
 
@@ -232,22 +255,26 @@ with_piece piece old came past so =
       stay,
     )
 
-pub piece_taken : (piece : List ℕ) (old new : Kept) (before after : FeedParts) → Takes (kept (begun (added piece old.pieces)) old.recorder) before new after
-    → TakesPiece piece old before new after
-piece_taken piece old new before after takes came past so =
-    let a = with_piece piece old came past so in
+-- a piece was added
+abbrev pub with_added : (piece : List ℕ) → State → State
+with_added piece s = state (kept (begun (added piece s.kept.pieces)) s.kept.recorder) s.feed s.first
+
+pub piece_taken : (piece : List ℕ) (old new : State) → Takes (with_added piece old) new → TakesPiece piece old new
+piece_taken piece old new takes came past so =
+    let a = with_piece piece old.kept came past so in
     let m = takes (came ++ piece) past a.0 in
-    let p = old.recorder.plan in
-    let grown = subst (λ (fs : List Came). HasGrown p fs (frames_of (came ++ piece) (m.more ++ past)) before after) a.1 m.grown in
+    let p = old.kept.recorder.plan in
+    let Grown : List Came → Type 0 = λ was. HasGrown p was (frames_of (came ++ piece) (m.more ++ past)) old.feed new.feed old.first new.first in
+    let grown = subst (λ (fs : List Came). Grown fs) a.1 m.grown in
     (m.more, m.kept, grown, m.plan)
 
-pub piece_taken_up_to : (piece : List ℕ) (r : Result (Unit {0}) Stop) (old new : Kept) (before after : FeedParts) → (r ≡ Err Long → ⊥)
-    → TakesUpTo r (kept (begun (added piece old.pieces)) old.recorder) before new after → TakesIn piece r old before new after
-piece_taken_up_to piece (Ok u) old new before after short takes = piece_taken piece old new before after takes
-piece_taken_up_to piece (Err Memory) old new before after short takes = tt
-piece_taken_up_to piece (Err (Damaged at w)) old new before after short takes = piece_taken piece old new before after takes
-piece_taken_up_to piece (Err Time) old new before after short takes = piece_taken piece old new before after takes
-piece_taken_up_to piece (Err Long) old new before after short takes = absurd (short refl)
+pub piece_taken_up_to : (piece : List ℕ) (r : Result (Unit {0}) Stop) (old new : State) → (r ≡ Err Long → ⊥)
+    → TakesUpTo r (with_added piece old) new → TakesIn piece r old new
+piece_taken_up_to piece (Ok u) old new short takes = piece_taken piece old new takes
+piece_taken_up_to piece (Err Memory) old new short takes = tt
+piece_taken_up_to piece (Err (Damaged at w)) old new short takes = piece_taken piece old new takes
+piece_taken_up_to piece (Err Time) old new short takes = piece_taken piece old new takes
+piece_taken_up_to piece (Err Long) old new short takes = absurd (short refl)
 
 -- ---- before the first piece
 

@@ -43,26 +43,56 @@ pub record IsSoFar (came : List ℕ) (past : List packet.Packet) (k : Kept) : Ty
   pub packets : Past k.pieces.capture came k.pieces.passed past
   pub frames : IsKept (frames_of came past) k.recorder
 
--- a feed grew by just what some frames give more than others
-pub record HasGrown (p : PlanParts) (was now : List Came) (before after : FeedParts) : Type 0 where
+-- when the frame came that gave the first lines, after a frame that came at `time`: known is known
+abbrev pub noted : (first : Option ℕ) (lines : List ℕ) (time : ℕ) → Option ℕ
+noted (Some first) lines time = Some first
+noted None [] time = None
+noted None (b ∷ lines) time = Some time
+
+-- of all these frames, the newest first
+abbrev pub first_time : PlanParts → List Came → Option ℕ
+first_time p [] = None
+first_time p (c ∷ past) = noted (first_time p past) (lines p (c ∷ past)) c.time
+
+-- where there are lines, the time of the first ones is known
+abbrev pub Knows : (lines : List ℕ) (first : Option ℕ) → Type 0
+Knows lines (Some time) = Unit {0}
+Knows lines None = lines ≡ []
+
+pub record IsFirst (p : PlanParts) (past : List Came) (feed : FeedParts) (first : Option ℕ) : Type 0 where
+  pub time : first ≡ first_time p past
+  pub known : Knows feed.lines first
+
+-- a feed grew by just what some frames give more than others; and if `old` was the time of the first lines of those, `new` is that of these
+pub record HasGrown (p : PlanParts) (was now : List Came) (before after : FeedParts) (old new : Option ℕ) : Type 0 where
   pub lines : Grows before.lines after.lines (lines p was) (lines p now)
   pub events : Grows before.events after.events (events p was) (events p now)
   pub missing : Grows before.missing after.missing (missing p was) (missing p now)
+  pub first : IsFirst p was before old → IsFirst p now after new
+
+-- what is kept, a feed, and when the frame came that gave the first lines
+pub record State : Type 0 where
+  pub kept : Kept
+  pub feed : FeedParts
+  pub first : Option ℕ
+
+abbrev pub state : Kept → FeedParts → Option ℕ → State
+state k feed first = record { kept = k; feed = feed; first = first }
 
 -- more packets of the same bytes
-pub record More (came : List ℕ) (past : List packet.Packet) (p : PlanParts) (before : FeedParts) (new : Kept) (after : FeedParts) : Type 0 where
+pub record More (came : List ℕ) (past : List packet.Packet) (p : PlanParts) (old new : State) : Type 0 where
   pub more : List packet.Packet
-  pub kept : IsSoFar came (more ++ past) new
-  pub grown : HasGrown p (frames_of came past) (frames_of came (more ++ past)) before after
-  pub plan : new.recorder.plan ≡ p
+  pub kept : IsSoFar came (more ++ past) new.kept
+  pub grown : HasGrown p (frames_of came past) (frames_of came (more ++ past)) old.feed new.feed old.first new.first
+  pub plan : new.kept.recorder.plan ≡ p
 
-abbrev pub Takes : (old : Kept) (before : FeedParts) (new : Kept) (after : FeedParts) → Type 0
-Takes old before new after = (came : List ℕ) (past : List packet.Packet) → IsSoFar came past old → More came past old.recorder.plan before new after
+abbrev pub Takes : (old new : State) → Type 0
+Takes old new = (came : List ℕ) (past : List packet.Packet) → IsSoFar came past old.kept → More came past old.kept.recorder.plan old new
 
 -- If memory ran out nothing is promised.
-abbrev pub TakesUpTo : Result (Unit {0}) Stop → (old : Kept) (before : FeedParts) (new : Kept) (after : FeedParts) → Type 0
-TakesUpTo (Err Memory) old before new after = Unit {0}
-TakesUpTo r old before new after = Takes old before new after
+abbrev pub TakesUpTo : Result (Unit {0}) Stop → (old new : State) → Type 0
+TakesUpTo (Err Memory) old new = Unit {0}
+TakesUpTo r old new = Takes old new
 
 -- what comes next: nothing that is whole, or what the reading stops at
 abbrev pub StopsAt : Result (Unit {0}) Stop → PiecesParts → Type 0
@@ -83,22 +113,17 @@ Adds piece (Err Long) old new = new ≡ old
 Adds piece (Err s) old new = ⊥
 
 -- with a piece more
-abbrev pub TakesPiece : (piece : List ℕ) → (old : Kept) (before : FeedParts) (new : Kept) (after : FeedParts) → Type 0
-TakesPiece piece old before new after =
-    (came : List ℕ) (past : List packet.Packet) → IsSoFar came past old
-    → (more : List packet.Packet) × IsSoFar (came ++ piece) (more ++ past) new
-    × HasGrown old.recorder.plan (frames_of came past) (frames_of (came ++ piece) (more ++ past)) before after × (new.recorder.plan ≡ old.recorder.plan)
+abbrev pub TakesPiece : (piece : List ℕ) → (old new : State) → Type 0
+TakesPiece piece old new =
+    (came : List ℕ) (past : List packet.Packet) → IsSoFar came past old.kept
+    → (more : List packet.Packet) × IsSoFar (came ++ piece) (more ++ past) new.kept
+    × HasGrown old.kept.recorder.plan (frames_of came past) (frames_of (came ++ piece) (more ++ past)) old.feed new.feed old.first new.first
+    × (new.kept.recorder.plan ≡ old.kept.recorder.plan)
 
-abbrev pub TakesIn : (piece : List ℕ) → Result (Unit {0}) Stop → (old : Kept) (before : FeedParts) (new : Kept) (after : FeedParts) → Type 0
-TakesIn piece (Err Memory) old before new after = Unit {0}
-TakesIn piece (Err Long) old before new after = (new ≡ old) × (after ≡ before)
-TakesIn piece r old before new after = TakesPiece piece old before new after
-
--- when the frame came that gave the first lines, after a frame that came at `time`: known is known
-abbrev pub noted : (first : Option ℕ) (lines : List ℕ) (time : ℕ) → Option ℕ
-noted (Some first) lines time = Some first
-noted None [] time = None
-noted None (b ∷ lines) time = Some time
+abbrev pub TakesIn : (piece : List ℕ) → Result (Unit {0}) Stop → (old new : State) → Type 0
+TakesIn piece (Err Memory) old new = Unit {0}
+TakesIn piece (Err Long) old new = new ≡ old
+TakesIn piece r old new = TakesPiece piece old new
 
 -- after a packet: if memory ran out or its time doesn't fit, as before
 abbrev pub NotedAfter : Result (Unit {0}) Stop → packet.Packet → (lines : List ℕ) → (old new : Option ℕ) → Type 0

@@ -81,7 +81,8 @@ fn take_packet<A: Allocator + Copy>(
     requires order { packet.now.content.from ≤ packet.now.content.to }
     requires within { packet.now.content.to ≤ length pieces.old.bytes }
     ensures passed { OnOk result (pieces.new ≡ pcap.passed packet.now.content.to pieces.old) }
-    ensures takes { spec.TakesUpTo result (spec.kept pieces.old recorder.old) feed.old (spec.kept pieces.new recorder.new) feed.new }
+    ensures takes { spec.TakesUpTo result (spec.state (spec.kept pieces.old recorder.old) feed.old first.old)
+        (spec.state (spec.kept pieces.new recorder.new) feed.new first.new) }
     ensures stops { spec.StopsAtError result pieces.new }
     ensures short { result ≡ Err Long → ⊥ }
     ensures first { spec.NotedAfter result packet.now feed.new.lines first.old first.new }
@@ -107,7 +108,8 @@ fn take_packets<A: Allocator + Copy>(
     feed: &mut Feed<A>,
     first: &mut Option<u64>,
 ) -> Result<(), Stop>
-    ensures takes { spec.TakesUpTo result (spec.kept pieces.old recorder.old) feed.old (spec.kept pieces.new recorder.new) feed.new }
+    ensures takes { spec.TakesUpTo result (spec.state (spec.kept pieces.old recorder.old) feed.old first.old)
+        (spec.state (spec.kept pieces.new recorder.new) feed.new first.new) }
     ensures stops { spec.StopsAt result pieces.new }
     ensures short { result ≡ Err Long → ⊥ }
     ensures first { spec.StaysKnown first.old first.new }
@@ -165,7 +167,7 @@ impl<A: Allocator + Copy> Conversion<A> {
         feed: &mut Feed<A>,
         first: &mut Option<u64>,
     ) -> Result<(), Stop>
-        ensures takes { spec.TakesIn piece.now result self.old feed.old self.new feed.new }
+        ensures takes { spec.TakesIn piece.now result (spec.state self.old feed.old first.old) (spec.state self.new feed.new first.new) }
         ensures stops { spec.StopsAt result self.new.pieces }
         ensures first { spec.StaysKnown first.old first.new }
     {
