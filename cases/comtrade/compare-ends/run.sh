@@ -27,7 +27,7 @@ echo "status $?"
 apart < out.svg
 "$comtrade" compare --map IA=IB,IB=IA near near > out.svg
 echo "status $?"
-for words in '--map UA=Q near odd' '--map UA near odd' '--map UA=X5 near odd' '--map UA=X1,UB=X1 near odd' 'near odd' '--by fault near first' '--by hand near far' '--shift x near far'; do
+for words in '--map UA=Q near odd' '--map Q=X1 near odd' '--map UA near odd' '--map UA=X5 near odd' '--map UA=X1,UB=X1 near odd' 'near odd' '--by fault near first' '--by hand near far' '--shift x near far'; do
     "$comtrade" compare $words > out.svg
     echo "status $?"
 done

@@ -36,7 +36,7 @@ const NO_WAY: &str = "error: --by expects instant, trigger or fault\n";
 
 const NO_SHIFT: &str = "error: --shift expects milliseconds, such as 3.7 or -20\n";
 
-const NO_PAIR: &str = "\": expected a channel of A and one of B, both of one unit and each \
+const NO_PAIR: &str = "; expected a channel of A and one of B, both of one unit and each \
 named once, such as UA=VA\n";
 
 const NO_FAULT: &str = "comtrade: --by fault needs a fault in each of these records\n";
@@ -138,7 +138,7 @@ pub(crate) fn match_names<A: Allocator + Copy>(
         if is_matched {
             ""
         } else {
-            "comtrade: --map has \""
+            "comtrade: --map has "
         },
     )?;
     said.extend_from_slice(&told)?;

@@ -9,7 +9,7 @@ use crate::folder::{Pairs, pairs_of};
 use crate::load::Inputs;
 use crate::one::{put_verdict, run_check, run_view};
 use crate::opened::{Opened, odd_line, open_record};
-use crate::output::{Findings, named_file, put_findings};
+use crate::output::{Findings, has_records, named_file, put_findings};
 use crate::pictures::run_pictures;
 use crate::twice::{is_data, is_head};
 use crate::view::is_askable;
@@ -195,7 +195,7 @@ fn answers_of<R: Files + Input + Eprint + AllocGlobal + Clone + Drop>(
     if batch != Batch::Check {
         answers.sort()?;
     }
-    Ok(answers.to_findings(rt.alloc(), pairs.is_whole)?)
+    Ok(answers.to_findings(rt.alloc(), has_records(pairs))?)
 }
 
 /// Prints what is asked of many records, one after the other. The status is 1 if one has an error.

@@ -5,7 +5,7 @@ use crate::folder::{Pairs, pairs_of};
 use crate::line::line_named;
 use crate::load::Inputs;
 use crate::opened::{Opened, odd_line, open_record, say_repairs, without_program};
-use crate::output::{Findings, put_findings};
+use crate::output::{Findings, has_records, put_findings};
 use crate::zones::to_zone_of;
 use crate::{complain, say};
 use bumpalo::Bump;
@@ -124,7 +124,7 @@ fn diagnosed<R: Files + Input + Eprint + AllocGlobal + Clone + Drop>(
     faults.sort()?;
     Ok(Findings {
         text: text_of(rt.alloc(), asked, &faults)?,
-        is_sound: faults.is_sound() && pairs.is_whole,
+        is_sound: faults.is_sound() && has_records(pairs),
         has_read,
     })
 }

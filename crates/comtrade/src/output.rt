@@ -1,5 +1,6 @@
 //! Where the output goes: standard output, or a new file.
 
+use crate::folder::Pairs;
 use crate::print_bytes;
 use crate::write::write_new;
 use std::rt::Files;
@@ -24,6 +25,12 @@ pub(crate) fn put_out<R: Files + Print + Eprint + AllocGlobal>(
         Some(_) => 1,
         None => print_bytes(rt, bytes),
     }
+}
+
+/// Whether names mean a record at all, and all folders were read. Else the status is 1, for each
+/// command over many records: a script can tell that there was nothing.
+pub(crate) fn has_records(pairs: &Pairs) -> bool {
+    pairs.is_whole && !pairs.is_empty()
 }
 
 /// What was found in many records.

@@ -5,7 +5,7 @@ use crate::ending::{folder_of, stem_of};
 use crate::folder::Pairs;
 use crate::load::read_record;
 use crate::opened::odd_line;
-use crate::output::named_file;
+use crate::output::{has_records, named_file};
 use crate::wanted::{Product, Wanted};
 use crate::write::write_new;
 use crate::{complain, note_size, print_bytes, say};
@@ -143,7 +143,7 @@ fn write_all<R: Files + Input + Print + Eprint + AllocGlobal + Clone + Drop>(
     pairs: &Pairs,
     folder: &str,
 ) -> Result<bool, ToolFault> {
-    let mut is_whole = pairs.is_whole && pairs.odd.is_empty() && !pairs.is_empty();
+    let mut is_whole = has_records(pairs) && pairs.odd.is_empty();
     for name in &pairs.odd {
         say(rt, &odd_line(rt.alloc(), name)?);
     }

@@ -5,7 +5,7 @@ use crate::content::{Loaded, NO_ENCODING, Reading, encoding_of, file_spelled};
 use crate::folder::{Pairs, pairs_of};
 use crate::load::Inputs;
 use crate::opened::{Opened, line_on, odd_line, open_record};
-use crate::output::{Findings, put_findings};
+use crate::output::{Findings, has_records, put_findings};
 use crate::report_text::{BEGIN, COLUMNS, END, FRAME, STYLE};
 use crate::zones::to_zone_of;
 use crate::{complain, say};
@@ -244,7 +244,7 @@ fn report_of<R: Files + Input + Eprint + AllocGlobal + Clone + Drop>(
     found.faults.sort()?;
     Ok(Findings {
         text: text_of(rt.alloc(), &found)?,
-        is_sound: found.faults.is_sound() && pairs.is_whole && !pairs.is_empty(),
+        is_sound: found.faults.is_sound() && has_records(pairs),
         has_read: !found.names.is_empty(),
     })
 }

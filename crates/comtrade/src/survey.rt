@@ -5,7 +5,7 @@ use crate::event_file::{Named, event_file_named};
 use crate::folder::{Pairs, pairs_of};
 use crate::found::{Asked, Found, add_event_file, add_fault, add_odd, add_pair};
 use crate::opened::{Opened, line_on, open_record};
-use crate::output::{Findings, put_findings};
+use crate::output::{Findings, has_records, put_findings};
 use crate::{complain, say};
 use comtrade_io::{Survey, Surveyed, ToolFault};
 use comtrade_values::put;
@@ -111,7 +111,7 @@ fn survey_pairs<R: Files + Input + Eprint + AllocGlobal + Clone + Drop>(
     pairs: &Pairs,
 ) -> Result<Findings, ToolFault> {
     let alloc = rt.alloc();
-    let mut found = Found::new(alloc, pairs.is_whole);
+    let mut found = Found::new(alloc, has_records(pairs));
     let each = Asked {
         survey,
         filter,

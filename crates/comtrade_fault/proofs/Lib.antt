@@ -1,3 +1,4 @@
 pub mod MoreRows
+pub mod MoreTurns
 pub mod FirstRows
 pub mod Chains

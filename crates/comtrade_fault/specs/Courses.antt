@@ -10,6 +10,7 @@ use Rattle.comtrade_fault.specs.Deciding.{kind, doubts}
 use Rattle.comtrade_fault.specs.declared.scan.Scan.{Scan}
 use Rattle.comtrade_fault.specs.declared.scan.Weights.{Weights}
 use Rattle.comtrade_fault.specs.declared.sizes.Sizes.{Sizes}
+use Rattle.comtrade_fault.specs.declared.turn.Remainder.{Remainder}
 use Rattle.comtrade_fault.specs.declared.bounds.Bounds.{Bounds}
 use Rattle.comtrade_fault.specs.declared.ends.Ends.{Ends}
 use Rattle.comtrade_fault.specs.declared.kind.Kind.{Kind}
@@ -17,13 +18,14 @@ use Rattle.comtrade_fault.specs.declared.kind.Kind.TheVariants.{Fault, Other}
 use Rattle.comtrade_fault.specs.declared.kind.Evidence.{Evidence}
 use Rattle.comtrade_fault.specs.declared.disturbance.Disturbance.{Disturbance}
 
--- three phases: their samples, and the weights of these
+-- three phases: their samples, the weights of these, and what a cycle has beside its whole rows
 pub record Course : Type 0 where
   pub scans : List Scan
   pub weights : Weights
+  pub remainder : Remainder
 
-abbrev pub course : List Scan → Weights → Course
-course scans weights = record { scans = scans; weights = weights }
+abbrev pub course : List Scan → Weights → Remainder → Course
+course scans weights remainder = record { scans = scans; weights = weights; remainder = remainder }
 
 -- they were not less than half as large before as after
 abbrev pub if_live : Sizes → Option Sizes
@@ -31,7 +33,7 @@ if_live s = if nat_lt (2 * most_of s.before) (most_of s.after) then None else So
 
 -- the sizes of voltages around a row, where there are voltages, and they were live
 unfoldable pub live_around : Course → ℕ → ℕ → Option Sizes
-live_around v cycle row = if nat_lt (length v.scans) (row + cycle) then None else if_live (sizes_around v.scans v.weights cycle row)
+live_around v cycle row = if nat_lt (length v.scans) (row + cycle) then None else if_live (sizes_around v.scans v.weights cycle v.remainder row)
 
 -- no sample of some scans is missing
 abbrev pub are_known : List Scan → Bool
@@ -44,7 +46,7 @@ is_whole_around scans cycle row = are_known (take (2 * cycle) (drop (row - cycle
 -- what the disturbance that begins at a row is decided by
 unfoldable pub evidence_at : Course → Course → ℕ → ℕ → Evidence
 evidence_at i v cycle row = record {
-  currents = sizes_around i.scans i.weights cycle row;
+  currents = sizes_around i.scans i.weights cycle i.remainder row;
   usual = most_of (phases (size_from i.scans i.weights cycle 0));
   second = phases (second_from i.scans i.weights cycle row);
   voltages = live_around v cycle row;

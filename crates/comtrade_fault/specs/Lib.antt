@@ -1,5 +1,6 @@
 pub mod Searches
 pub mod Levels
+pub mod Turning
 pub mod Sizing
 pub mod Bounding
 pub mod Departures

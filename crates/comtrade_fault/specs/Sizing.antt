@@ -1,11 +1,13 @@
 -- How large the quantities are in the cycles around a row.
 use Rattle.std.specs.Prelude.{ℕ, ◌+◌, ◌-◌, ◌/◌, ◌^◌, ◌≤◌, max, min, List}
 use Rattle.comtrade_fault.specs.Levels.{sum_over}
+use Rattle.comtrade_fault.specs.Turning.{turns}
 use Rattle.comtrade_fault.specs.declared.scan.Scan.{Scan}
 use Rattle.comtrade_fault.specs.declared.scan.Weights.{Weights}
 use Rattle.comtrade_fault.specs.declared.scan.Signal.{Signal}
 use Rattle.comtrade_fault.specs.declared.scan.Signal.TheVariants.{A, B, C, AB, BC, CA, Earth}
-use Rattle.comtrade_fault.specs.declared.form.Form.TheVariants.{Step, Change, Sum}
+use Rattle.comtrade_fault.specs.declared.form.Form.TheVariants.{Step, Sum}
+use Rattle.comtrade_fault.specs.declared.turn.Remainder.{Remainder}
 use Rattle.comtrade_fault.specs.declared.sizes.Phases.{Phases}
 use Rattle.comtrade_fault.specs.declared.sizes.Changes.{Changes}
 use Rattle.comtrade_fault.specs.declared.sizes.Sizes.{Sizes}
@@ -22,9 +24,9 @@ quarter cycle = (cycle + 2) / 4
 unfoldable pub size_from : List Scan → Weights → ℕ → ℕ → Signal → ℕ
 size_from scans w cycle row s = sum_over scans w s (Step (half cycle)) (row + half cycle) (cycle - half cycle)
 
--- of the difference between the cycle from a row on and the cycle before it
-unfoldable pub change_at : List Scan → Weights → ℕ → ℕ → Signal → ℕ
-change_at scans w cycle row s = sum_over scans w s (Change (half cycle) cycle) (row + half cycle) (cycle - half cycle)
+-- of the difference between the cycle from a row on and the exact cycle before it
+unfoldable pub change_at : List Scan → Weights → ℕ → Remainder → ℕ → Signal → ℕ
+change_at scans w cycle r row s = turns scans w s (half cycle) cycle r (row + half cycle) (cycle - half cycle)
 
 -- of the second harmonic: half a cycle apart it repeats, and a quarter apart it has the other sign
 unfoldable pub second_from : List Scan → Weights → ℕ → ℕ → Signal → ℕ
@@ -40,11 +42,11 @@ abbrev pub changes : (Signal → ℕ) → Changes
 changes f = record { a = f A; b = f B; c = f C; ab = f AB; bc = f BC; ca = f CA; earth = f Earth }
 
 -- the cycle before a row, the cycle from it on, and what differs
-abbrev pub sizes_around : List Scan → Weights → ℕ → ℕ → Sizes
-sizes_around scans w cycle row = record {
+abbrev pub sizes_around : List Scan → Weights → ℕ → Remainder → ℕ → Sizes
+sizes_around scans w cycle r row = record {
   before = phases (size_from scans w cycle (row - cycle));
   after = phases (size_from scans w cycle row);
-  change = changes (change_at scans w cycle row);
+  change = changes (change_at scans w cycle r row);
 }
 
 abbrev pub most_of : Phases → ℕ

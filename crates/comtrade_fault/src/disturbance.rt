@@ -12,6 +12,7 @@ use crate::ends::{Ends, ends_after};
 use crate::kind::{Doubts, Evidence, Kind};
 use crate::scan::{Scan, Weights};
 use crate::sizes::{Sizes, phases_from, seconds_from, sizes_around};
+use crate::turn::Remainder;
 use comtrade_values::Memory;
 use std::alloc::Allocator;
 
@@ -36,16 +37,23 @@ pub struct Disturbance {
 /// The sizes of voltages around a row, where there are voltages, and they were not dead: less than
 /// half as large before as after.
 #[tactic(auto, unfolding(crate::specs::Courses::live_around))]
-fn live_around(scans: &[Scan], weights: Weights, cycle: usize, row: usize) -> Option<Sizes>
-    requires back { cycle ≤ row }
+fn live_around(
+    scans: &[Scan],
+    weights: Weights,
+    cycle: usize,
+    remainder: Remainder,
+    row: usize,
+) -> Option<Sizes>
+    requires some { 0 < cycle }
+    requires back { cycle < row }
     requires few { cycle ≤ 2 ^ 20 }
-    ensures value { result ≡ spec.live_around (course scans.now weights) cycle row }
+    ensures value { result ≡ spec.live_around (course scans.now weights remainder) cycle row }
     ensures small { IfSome result Fit }
 {
     if scans.len() < cycle || scans.len() - cycle < row {
         return None;
     }
-    let sizes = sizes_around(scans, weights, cycle, row);
+    let sizes = sizes_around(scans, weights, cycle, remainder, row);
     if 2 * sizes.before.most() < sizes.after.most() {
         return None;
     }
@@ -77,20 +85,21 @@ fn evidence_at(
     voltages: &[Scan],
     voltage_weights: Weights,
     cycle: usize,
+    remainder: Remainder,
     row: usize,
 ) -> Evidence
     requires within { row + cycle ≤ length scans.now }
-    requires back { cycle ≤ row }
+    requires back { cycle < row }
     requires some { 8 ≤ cycle }
     requires few { cycle ≤ 2 ^ 20 }
-    ensures value { result ≡ spec.evidence_at (course scans.now weights) (course voltages.now voltage_weights) cycle row }
+    ensures value { result ≡ spec.evidence_at (course scans.now weights remainder) (course voltages.now voltage_weights remainder) cycle row }
     ensures small { IsSmall result }
 {
     Evidence {
-        currents: sizes_around(scans, weights, cycle, row),
+        currents: sizes_around(scans, weights, cycle, remainder, row),
         usual: phases_from(scans, weights, cycle, 0).most(),
         second: seconds_from(scans, weights, cycle, row),
-        voltages: live_around(voltages, voltage_weights, cycle, row),
+        voltages: live_around(voltages, voltage_weights, cycle, remainder, row),
         is_whole: is_whole_around(scans, cycle, row),
     }
 }
@@ -114,17 +123,26 @@ fn disturbance_at(
     voltage_weights: Weights,
     bounds: Bounds,
     cycle: usize,
+    remainder: Remainder,
     from: usize,
     row: usize,
 ) -> Disturbance
     requires within { row + cycle ≤ length scans.now }
-    requires back { cycle ≤ row }
+    requires back { cycle < row }
     requires some { 8 ≤ cycle }
     requires few { cycle ≤ 2 ^ 20 }
     requires step { bounds.step ≤ 2 ^ 64 }
-    ensures value { result ≡ spec.disturbance_at (course scans.now weights) (course voltages.now voltage_weights) bounds cycle from row }
+    ensures value { result ≡ spec.disturbance_at (course scans.now weights remainder) (course voltages.now voltage_weights remainder) bounds cycle from row }
 {
-    let evidence = evidence_at(scans, weights, voltages, voltage_weights, cycle, row);
+    let evidence = evidence_at(
+        scans,
+        weights,
+        voltages,
+        voltage_weights,
+        cycle,
+        remainder,
+        row,
+    );
     let kind = evidence.kind();
     let ends = ends_after(scans, weights, bounds, cycle, row);
     Disturbance {
@@ -147,13 +165,14 @@ fn next_from(
     voltage_weights: Weights,
     bounds: Bounds,
     cycle: usize,
+    remainder: Remainder,
     from: usize,
 ) -> Option<Disturbance>
     requires back { 2 * cycle ≤ from }
     requires some { 8 ≤ cycle }
     requires few { cycle ≤ 2 ^ 20 }
     requires step { bounds.step ≤ 2 ^ 64 }
-    ensures value { result ≡ spec.next_from (course scans.now weights) (course voltages.now voltage_weights) bounds cycle from }
+    ensures value { result ≡ spec.next_from (course scans.now weights remainder) (course voltages.now voltage_weights remainder) bounds cycle from }
 {
     let row = departure_from(scans, weights, bounds, cycle, from)?;
     let inception = inception_of(scans, weights, bounds.step, cycle, from, row);
@@ -167,6 +186,7 @@ fn next_from(
         voltage_weights,
         bounds,
         cycle,
+        remainder,
         from,
         inception,
     ))
@@ -207,10 +227,11 @@ pub fn disturbances_in<B: Allocator + Copy>(
     voltages: &[Scan],
     voltage_weights: Weights,
     cycle: usize,
+    remainder: Remainder,
 ) -> Result<Vec<Disturbance, B>, Memory>
     requires some { 8 ≤ cycle }
     requires few { cycle ≤ 2 ^ 20 }
-    ensures { IfOk result (λ found. found.items ≡ spec.disturbances (course scans.now weights) (course voltages.now voltage_weights) cycle) }
+    ensures { IfOk result (λ found. found.items ≡ spec.disturbances (course scans.now weights remainder) (course voltages.now voltage_weights remainder) cycle) }
 {
     let mut found = Vec::new(alloc);
     if scans.len() < 3 * cycle {
@@ -226,6 +247,7 @@ pub fn disturbances_in<B: Allocator + Copy>(
             voltage_weights,
             bounds,
             cycle,
+            remainder,
             from,
         );
         let Some(next) = next else {

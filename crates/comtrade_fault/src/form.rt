@@ -20,9 +20,9 @@ pub enum Form {
 
 /// What counts for a quantity and what counts against it: its value is the difference.
 #[derive(Clone, Copy)]
-struct Sides {
-    plus: u128,
-    minus: u128,
+pub(crate) struct Sides {
+    pub(crate) plus: u128,
+    pub(crate) minus: u128,
 }
 
 /// The sides of a value in a row.
@@ -41,7 +41,13 @@ fn value_at(scans: &[Scan], weights: Weights, signal: Signal, row: usize) -> Sid
 
 /// The sides of the value in a row less that so many rows before.
 #[tactic(auto, unfolding(crate::specs::Levels::step_at))]
-fn step_at(scans: &[Scan], weights: Weights, signal: Signal, lag: usize, row: usize) -> Sides
+pub(crate) fn step_at(
+    scans: &[Scan],
+    weights: Weights,
+    signal: Signal,
+    lag: usize,
+    row: usize,
+) -> Sides
     requires within { row < length scans.now }
     requires back { lag ≤ row }
     ensures value { result ≡ spec.step_at scans.now weights signal lag row }

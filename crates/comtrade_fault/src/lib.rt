@@ -14,6 +14,7 @@ mod place;
 mod scan;
 mod scans;
 mod sizes;
+mod turn;
 mod types;
 mod weights;
 
@@ -27,5 +28,6 @@ pub use place::{Place, is_current, is_voltage, places_in};
 pub use scan::{NOTHING, Scan, Signal, Weights, ZERO, minus_of, plus_of};
 pub use scans::scans_of;
 pub use sizes::{Changes, Phases, Sizes};
+pub use turn::Remainder;
 pub use types::FaultType;
 pub use weights::weights_of;

@@ -1,6 +1,6 @@
 //! The disturbances of a file.
 
-ghost use Rattle.std.specs.Prelude.{◌≡◌, ◌*◌, ◌^◌, ◌<◌, ◌≤◌};
+ghost use Rattle.std.specs.Prelude.{◌≡◌, ◌*◌, ◌^◌, ◌<◌, ◌≤◌, IfSome};
 ghost use Rattle.std.specs.Option.{SomeIff};
 ghost use Rattle.comtrade_fault.specs.Scanning as spec;
 
@@ -8,6 +8,7 @@ use crate::disturbance::{Disturbance, disturbances_in};
 use crate::place::{Place, places_in};
 use crate::scan::{Scan, Weights};
 use crate::scans::scans_of;
+use crate::turn::Remainder;
 use crate::weights::weights_of;
 use comtrade_analysis::Sequence;
 use comtrade_format::{Cycle, File, Row, cycle_of};
@@ -45,6 +46,21 @@ pub fn cycle_rows(cycle: Cycle) -> Option<usize>
     None
 }
 
+/// What a cycle has beside its whole rows, to the nearest 256th of a row; None of a row or more.
+fn remainder_of(cycle: Cycle, rows: usize) -> Option<Remainder>
+    requires some { 0 < cycle.cycles }
+    requires few { rows ≤ 2 ^ 20 }
+    ensures { SomeIff result (spec.parts cycle rows < 256) (spec.remainder cycle rows) }
+{
+    let twice = 2 * cycle.cycles as u128;
+    let all = (512 * cycle.rows as u128 + cycle.cycles as u128) / twice;
+    let whole = 256 * rows as u128;
+    Some(Remainder {
+        is_longer: whole <= all,
+        parts: u8::try_from(all.abs_diff(whole)).ok()?,
+    })
+}
+
 /// The voltages of these rows; none where a factor has too many digits.
 fn voltages_of<A: Allocator, B: Allocator + Copy>(
     alloc: B,
@@ -60,6 +76,16 @@ fn voltages_of<A: Allocator, B: Allocator + Copy>(
     Ok((Vec::new(alloc), Weights { a: 1, b: 1, c: 1 }))
 }
 
+/// The rows of a cycle, if they are 8 to 2^20, and what it has beside them.
+fn length_of(cycle: Cycle) -> Option<(usize, Remainder)>
+    requires { 0 < cycle.cycles }
+    ensures rows { IfSome result (λ length. (8 ≤ length.0) × (length.0 ≤ 2 ^ 20)) }
+    ensures value { IfSome result (λ length. (length.0 ≡ spec.nearest_rows cycle) × (length.1 ≡ spec.remainder cycle length.0)) }
+{
+    let rows = cycle_rows(cycle)?;
+    Some((rows, remainder_of(cycle, rows)?))
+}
+
 /// Adds the disturbances of a place in the rows of a rate.
 fn add_of<A: Allocator, B: Allocator + Copy>(
     alloc: B,
@@ -69,6 +95,7 @@ fn add_of<A: Allocator, B: Allocator + Copy>(
     first: usize,
     end: usize,
     cycle: usize,
+    remainder: Remainder,
 ) -> Result<(), Memory>
     requires some { 8 ≤ cycle }
     requires few { cycle ≤ 2 ^ 20 }
@@ -82,7 +109,15 @@ fn add_of<A: Allocator, B: Allocator + Copy>(
     };
     let scans = scans_of(alloc, rows, place.currents)?;
     let (voltages, voltage_weights) = voltages_of(alloc, channels, rows, place.voltages)?;
-    let list = disturbances_in(alloc, &scans, weights, &voltages, voltage_weights, cycle)?;
+    let list = disturbances_in(
+        alloc,
+        &scans,
+        weights,
+        &voltages,
+        voltage_weights,
+        cycle,
+        remainder,
+    )?;
     for disturbance in &list {
         found.push(Found {
             place,
@@ -106,8 +141,8 @@ pub fn disturbances_of<A: Allocator, B: Allocator + Copy>(
         for rate in file.head.rates.items() {
             let end = (rate.endsamp as usize).min(file.rows.items().len());
             if let Ok(cycle) = cycle_of(file.head.line_freq, rate.samp) {
-                if let Some(rows) = cycle_rows(cycle) {
-                    add_of(alloc, &mut found, file, *place, first, end, rows)?;
+                if let Some((rows, remainder)) = length_of(cycle) {
+                    add_of(alloc, &mut found, file, *place, first, end, rows, remainder)?;
                 }
             }
             first = end;

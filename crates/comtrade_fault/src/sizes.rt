@@ -1,10 +1,11 @@
 //! How large the quantities are in the cycle before a row and in the cycle from it on.
 
-ghost use Rattle.std.specs.Prelude.{◌≡◌, ◌+◌, ◌*◌, ◌^◌, ◌≤◌, length};
+ghost use Rattle.std.specs.Prelude.{◌≡◌, ◌+◌, ◌*◌, ◌^◌, ◌<◌, ◌≤◌, length};
 ghost use Rattle.comtrade_fault.specs.Sizing as spec;
 
 use crate::form::{Form, sum_over};
 use crate::scan::{Scan, Signal, Weights};
+use crate::turn::{Remainder, turn_over};
 
 /// One number for each phase.
 #[derive(Clone, Copy, Debug, PartialEq, Eq)]
@@ -70,21 +71,27 @@ pub(crate) fn size_from(
     sum_over(scans, weights, signal, form, row + half, cycle - half)
 }
 
-/// The size of the difference between the cycle from a row on and the cycle before.
+/// The size of the difference between the cycle from a row on and the exact cycle before. With the
+/// cycle in whole rows, what a quiet voltage turns in a fraction of a row would count as a change.
 #[tactic(auto, unfolding(crate::specs::Sizing::change_at))]
-fn change_at(scans: &[Scan], weights: Weights, signal: Signal, cycle: usize, row: usize) -> u128
+fn change_at(
+    scans: &[Scan],
+    weights: Weights,
+    signal: Signal,
+    cycle: usize,
+    remainder: Remainder,
+    row: usize,
+) -> u128
     requires within { row + cycle ≤ length scans.now }
-    requires back { cycle ≤ row }
+    requires some { 0 < cycle }
+    requires back { cycle < row }
     requires few { cycle ≤ 2 ^ 20 }
-    ensures value { result ≡ spec.change_at scans.now weights cycle row signal }
+    ensures value { result ≡ spec.change_at scans.now weights cycle remainder row signal }
     ensures small { result ≤ spec.limit }
 {
     let half = half_of(cycle);
-    let form = Form::Change {
-        lag: half,
-        before: cycle,
-    };
-    sum_over(scans, weights, signal, form, row + half, cycle - half)
+    let (first, rows) = (row + half, cycle - half);
+    turn_over(scans, weights, signal, half, cycle, remainder, first, rows)
 }
 
 /// The size of a quantity's second harmonic in the cycle from a row on, on the scale of `size_from`.
@@ -167,35 +174,49 @@ pub(crate) fn seconds_from(scans: &[Scan], weights: Weights, cycle: usize, row: 
 }
 
 /// The differences between the cycle from a row on and the cycle before.
-fn changes_at(scans: &[Scan], weights: Weights, cycle: usize, row: usize) -> Changes
+fn changes_at(
+    scans: &[Scan],
+    weights: Weights,
+    cycle: usize,
+    remainder: Remainder,
+    row: usize,
+) -> Changes
     requires within { row + cycle ≤ length scans.now }
-    requires back { cycle ≤ row }
+    requires some { 0 < cycle }
+    requires back { cycle < row }
     requires few { cycle ≤ 2 ^ 20 }
-    ensures value { result ≡ spec.changes (spec.change_at scans.now weights cycle row) }
+    ensures value { result ≡ spec.changes (spec.change_at scans.now weights cycle remainder row) }
     ensures small { spec.AreSmall result }
 {
     Changes {
-        a: change_at(scans, weights, Signal::A, cycle, row),
-        b: change_at(scans, weights, Signal::B, cycle, row),
-        c: change_at(scans, weights, Signal::C, cycle, row),
-        ab: change_at(scans, weights, Signal::AB, cycle, row),
-        bc: change_at(scans, weights, Signal::BC, cycle, row),
-        ca: change_at(scans, weights, Signal::CA, cycle, row),
-        earth: change_at(scans, weights, Signal::Earth, cycle, row),
+        a: change_at(scans, weights, Signal::A, cycle, remainder, row),
+        b: change_at(scans, weights, Signal::B, cycle, remainder, row),
+        c: change_at(scans, weights, Signal::C, cycle, remainder, row),
+        ab: change_at(scans, weights, Signal::AB, cycle, remainder, row),
+        bc: change_at(scans, weights, Signal::BC, cycle, remainder, row),
+        ca: change_at(scans, weights, Signal::CA, cycle, remainder, row),
+        earth: change_at(scans, weights, Signal::Earth, cycle, remainder, row),
     }
 }
 
 /// The sizes around a row.
-pub fn sizes_around(scans: &[Scan], weights: Weights, cycle: usize, row: usize) -> Sizes
+pub fn sizes_around(
+    scans: &[Scan],
+    weights: Weights,
+    cycle: usize,
+    remainder: Remainder,
+    row: usize,
+) -> Sizes
     requires within { row + cycle ≤ length scans.now }
-    requires back { cycle ≤ row }
+    requires some { 0 < cycle }
+    requires back { cycle < row }
     requires few { cycle ≤ 2 ^ 20 }
-    ensures value { result ≡ spec.sizes_around scans.now weights cycle row }
+    ensures value { result ≡ spec.sizes_around scans.now weights cycle remainder row }
     ensures small { spec.Fit result }
 {
     Sizes {
         before: phases_from(scans, weights, cycle, row - cycle),
         after: phases_from(scans, weights, cycle, row),
-        change: changes_at(scans, weights, cycle, row),
+        change: changes_at(scans, weights, cycle, remainder, row),
     }
 }

@@ -3,6 +3,8 @@ pub mod Spellings
 pub mod Facts
 pub mod Html
 pub mod Matching
+pub mod Wording
+pub mod Witnesses
 pub mod JsonNumbers
 pub mod Stretches
 pub mod RmsValues

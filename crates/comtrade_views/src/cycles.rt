@@ -15,7 +15,7 @@ mod rms;
 mod unit;
 mod window;
 
-pub(crate) use around::cycle_to;
+pub(crate) use around::{cycle_ahead, cycle_to};
 pub use around::{Around, rms_around};
 pub use comtrade_analysis::{Measured, Phasor};
 pub use course::courses_of;

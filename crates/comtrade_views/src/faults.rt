@@ -18,6 +18,8 @@ mod role;
 mod signs;
 mod table;
 mod told;
+mod witness;
+mod wording;
 mod words;
 
 pub use members::RecordFaults;

@@ -69,16 +69,61 @@ fn alike_of<A: Allocator>(
     Some(Match { one, other })
 }
 
+/// Why a pair of names means no channels.
+#[derive(Clone, Copy)]
+enum NoMatch {
+    Sign,
+    One,
+    Other,
+    Units,
+    Twice,
+}
+
+/// The same in words.
+fn words_of(fault: NoMatch) -> &'static str {
+    match fault {
+        NoMatch::Sign => "it has no = between two names",
+        NoMatch::One => "A has no channel with the first name or number",
+        NoMatch::Other => "B has no channel with the second name or number",
+        NoMatch::Units => "the units of the channels differ",
+        NoMatch::Twice => "one of the channels stands in two pairs",
+    }
+}
+
 /// The channels that a pair of names such as `UA=VA` means, if their units differ only by a prefix.
-fn match_named<A: Allocator>(one: &Head<A>, other: &Head<A>, pair: &str) -> Option<Match> {
-    let (left, right) = pair.split_once('=')?;
-    let found = Match {
-        one: place_of(one, left.trim())?,
-        other: place_of(other, right.trim())?,
+fn match_named<A: Allocator>(one: &Head<A>, other: &Head<A>, pair: &str) -> Result<Match, NoMatch> {
+    let Some((left, right)) = pair.split_once('=') else {
+        return Err(NoMatch::Sign);
     };
-    let channel = one.analog.items().get(found.one)?;
-    factors_in(other.analog.items().get(found.other)?, channel.unit.items())?;
-    Some(found)
+    let Some(first) = place_of(one, left.trim()) else {
+        return Err(NoMatch::One);
+    };
+    let Some(second) = place_of(other, right.trim()) else {
+        return Err(NoMatch::Other);
+    };
+    let found = Match {
+        one: first,
+        other: second,
+    };
+    match (
+        one.analog.items().get(first),
+        other.analog.items().get(second),
+    ) {
+        (Some(one), Some(other)) if factors_in(other, one.unit.items()).is_some() => Ok(found),
+        _ => Err(NoMatch::Units),
+    }
+}
+
+/// Adds a pair that means no channels, and why.
+fn put_no_match<A: Allocator>(
+    told: &mut Vec<u8, A>,
+    pair: &str,
+    fault: NoMatch,
+) -> Result<(), AllocError> {
+    put(told, "\"")?;
+    put_safe(told, pair.as_bytes())?;
+    put(told, "\": ")?;
+    put(told, words_of(fault))
 }
 
 /// Whether one of these channels has been matched.
@@ -173,7 +218,7 @@ fn name_all<A: Allocator + Copy>(
 }
 
 /// The channels that pairs such as `UA=VA,IA=IL1` mean, if any are given; None where one means none,
-/// or a channel stands twice, and `told` then has that pair.
+/// or a channel stands twice, and `told` then has that pair and why.
 fn matches_named<A: Allocator + Copy>(
     alloc: A,
     one: &File<A>,
@@ -186,13 +231,16 @@ fn matches_named<A: Allocator + Copy>(
         return Ok(Some(matches));
     };
     for pair in pairs.split(',') {
-        match match_named(&one.head, &other.head, pair) {
-            Some(found) if !is_matched(&matches, found) => matches.push(found)?,
-            _ => {
-                put_safe(told, pair.as_bytes())?;
-                return Ok(None);
+        let fault = match match_named(&one.head, &other.head, pair) {
+            Ok(found) if !is_matched(&matches, found) => {
+                matches.push(found)?;
+                continue;
             }
-        }
+            Ok(_) => NoMatch::Twice,
+            Err(fault) => fault,
+        };
+        put_no_match(told, pair, fault)?;
+        return Ok(None);
     }
     Ok(Some(matches))
 }
@@ -216,7 +264,7 @@ fn matches_alike<A: Allocator + Copy>(
 /// Gives channels of the second record the names of those of the first that belong to them: those of
 /// pairs such as `UA=VA,IA=IL1`, then those of the same phase and kind where no channel is compared as
 /// it is. `told` gets a line for each. False where a pair does not name channels of one unit, each
-/// once; `told` then gets only that pair.
+/// once; `told` then gets only that pair and why.
 pub fn match_channels<A: Allocator + Copy>(
     alloc: A,
     one: &File<A>,

@@ -14,6 +14,31 @@ use dfr_channels::AnalogChannel;
 use serde::Serialize;
 use std::alloc::{AllocError, Allocator, Global};
 
+/// The cell of the current before an inception.
+fn put_before<A: Allocator>(table: &mut Vec<u8, A>, course: Course) -> Result<(), AllocError> {
+    match course.before {
+        Some(before) => put_float_cell(table, before, course.greatest),
+        None => put(table, "-\x1F"),
+    }
+}
+
+/// For how many milliseconds a current is above twice that before, where that is known.
+fn above_of(course: Course, frequency: f64) -> Option<f64> {
+    match course.before {
+        Some(_) => Some(course.above / frequency * 1000.0),
+        None => None,
+    }
+}
+
+/// The cell of that time.
+fn put_above<A: Allocator>(table: &mut Vec<u8, A>, above: Option<f64>) -> Result<(), AllocError> {
+    match above {
+        Some(ms) => put_places(table, ms, 3)?,
+        None => put(table, "- (no cycle before it to compare)")?,
+    }
+    end_cell(table)
+}
+
 /// The cells of a fault inception: when and where it is, and the current before and after it.
 fn put_course<A: Allocator>(
     table: &mut Vec<u8, A>,
@@ -25,10 +50,9 @@ fn put_course<A: Allocator>(
     end_cell(table)?;
     put_number(table, shown.number(course.row))?;
     end_cell(table)?;
-    put_float_cell(table, course.before, course.greatest)?;
+    put_before(table, course)?;
     put_float_cell(table, course.greatest, 0.0)?;
-    put_places(table, course.above / frequency * 1000.0, 3)?;
-    end_cell(table)?;
+    put_above(table, above_of(course, frequency))?;
     end_row(table)
 }
 
@@ -112,9 +136,9 @@ fn current_members<A: Allocator>(
         unit: text_of(alloc, channel.unit.items())?,
         left_ms: course.and_then(|course| shown.millis_at(course.row)),
         left_row: course.map(|course| shown.number(course.row)),
-        rms_before: course.map(|course| course.before),
+        rms_before: course.and_then(|course| course.before),
         rms_greatest: course.map(|course| course.greatest),
-        above_ms: course.map(|course| course.above / frequency * 1000.0),
+        above_ms: course.and_then(|course| above_of(course, frequency)),
     })
 }
 

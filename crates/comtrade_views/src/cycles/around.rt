@@ -1,6 +1,6 @@
 //! The rms values of channels before and after a fault inception.
 
-ghost use Rattle.std.specs.Prelude.{◌≡◌, IfSome};
+ghost use Rattle.std.specs.Prelude.{◌≡◌, ◌<◌, IfSome};
 ghost use Rattle.comtrade_views.specs.Stretches.{AreCycles};
 
 use crate::cycles::course::courses_of;
@@ -47,6 +47,21 @@ pub(crate) fn cycle_to(spans: &[Window], end: usize) -> Option<Window>
     None
 }
 
+/// The cycle before the last one before a row, which the last one was compared to. None where its
+/// rate has no such cycle: then a fault that is found in the row may have begun in the last one.
+pub(crate) fn cycle_ahead(spans: &[Window], row: usize) -> Option<Window>
+    ensures one { IfSome result (λ window. window.cycles ≡ 1) }
+    ensures rows { IfSome result (λ window. AreCycles window.cycle 1 window.from window.to) }
+    ensures apart { IfSome result (λ window. window.to < row) }
+{
+    let last = cycle_to(spans, row)?;
+    if last.from < row {
+        cycle_to(spans, last.from)
+    } else {
+        None
+    }
+}
+
 /// The cycle that begins some cycles after a row.
 fn cycle_from(spans: &[Window], row: usize, cycles: u64) -> Option<Window>
     ensures one { IfSome result (λ window. window.cycles ≡ 1) }
@@ -60,6 +75,13 @@ fn cycle_from(spans: &[Window], row: usize, cycles: u64) -> Option<Window>
         }
     }
     None
+}
+
+/// Where rms values are taken: around this row, which is an inception of a fault, or the trigger.
+#[derive(Clone, Copy)]
+struct Border {
+    row: usize,
+    is_inception: bool,
 }
 
 /// The index of the first row in which a current departs from its waveform, if one does.
@@ -91,6 +113,24 @@ fn trigger_in(times: &[Option<i64>]) -> Option<usize> {
         .position(|time| matches!(*time, Some(time) if 0 <= time))
 }
 
+/// The first inception of a current; else the trigger, by the times of rows since it.
+fn border_in<A: Allocator + Copy>(
+    alloc: A,
+    file: &File<A>,
+    times: &[Option<i64>],
+) -> Result<Option<Border>, MeasureFault> {
+    let inception = inception_in(alloc, file)?;
+    let is_inception = inception.is_some();
+    let Some(row) = (if is_inception {
+        inception
+    } else {
+        trigger_in(times)
+    }) else {
+        return Ok(None);
+    };
+    Ok(Some(Border { row, is_inception }))
+}
+
 /// Takes the rms values of a cycle as those before or after, of the channels that have none yet.
 fn fill<A: Allocator + Copy>(
     alloc: A,
@@ -120,23 +160,38 @@ fn fill<A: Allocator + Copy>(
     Ok(())
 }
 
-/// The rms values of a file's channels around a row: of the cycle that ends one cycle before it, or
-/// just before it where there is no other; of the first cycle from it on with all readings.
+/// The rms values of a file's channels before a row: of the cycle that ends one cycle before it, or
+/// just before it where a reading is missing. Before a trigger also where there is no other cycle;
+/// before an inception none is known then, since the fault may have begun in the last cycle.
+fn rms_before<A: Allocator + Copy>(
+    alloc: A,
+    file: &File<A>,
+    spans: &[Window],
+    border: Border,
+    list: &mut [Around],
+) -> Result<(), MeasureFault> {
+    let ahead = cycle_ahead(spans, border.row);
+    fill(alloc, file, ahead, true, list)?;
+    if ahead.is_some() || !border.is_inception {
+        fill(alloc, file, cycle_to(spans, border.row), true, list)?;
+    }
+    Ok(())
+}
+
+/// The rms values of a file's channels around a row; after it those of the first cycle from it on
+/// with all readings.
 fn rms_at<A: Allocator + Copy>(
     alloc: A,
     file: &File<A>,
     spans: &[Window],
-    row: usize,
+    border: Border,
     list: &mut [Around],
 ) -> Result<(), MeasureFault> {
-    let last = cycle_to(spans, row);
-    if let Some(last) = last {
-        fill(alloc, file, cycle_to(spans, last.from), true, list)?;
-    }
-    fill(alloc, file, last, true, list)?;
+    rms_before(alloc, file, spans, border, list)?;
     for cycles in 0..TRIED {
         if list.iter().any(|around| around.after.is_none()) {
-            fill(alloc, file, cycle_from(spans, row, cycles), false, list)?;
+            let window = cycle_from(spans, border.row, cycles);
+            fill(alloc, file, window, false, list)?;
         }
     }
     Ok(())
@@ -156,18 +211,15 @@ pub fn rms_around<A: Allocator + Copy>(
         Err(MeasureFault::Memory(error)) => return Err(MeasureFault::Memory(error)),
         Err(_) => return Ok(list),
     };
-    let row = match inception_in(alloc, file)? {
-        Some(row) => Some(row),
-        None => trigger_in(times),
-    };
+    let border = border_in(alloc, file, times)?;
     for _ in file.head.analog.items() {
         list.push(Around {
             before: None,
             after: None,
         })?;
     }
-    if let Some(row) = row {
-        rms_at(alloc, file, &spans, row, &mut list)?;
+    if let Some(border) = border {
+        rms_at(alloc, file, &spans, border, &mut list)?;
     }
     Ok(list)
 }

@@ -10,8 +10,9 @@ use std::alloc::{AllocError, Allocator, Global};
 pub struct Course {
     /// The index of the row.
     pub row: usize,
-    /// The rms value of the cycle before it.
-    pub before: f64,
+    /// The rms value of the cycle before it; None where that cycle has no other one before it in its
+    /// rate, to which it could be compared: then the fault may have begun in it.
+    pub before: Option<f64>,
     /// For how many cycles of the line frequency the cycle that ends in a row has more than twice
     /// the greatest rms value before it or an earlier departure, and more than the bound.
     pub above: f64,
@@ -191,8 +192,9 @@ impl<A: Allocator> Current<A> {
         }
     }
 
-    /// Records a departure, unless one is open or no cycle before has all its readings.
-    fn depart(&mut self, index: usize) {
+    /// Records a departure, unless one is open or no cycle before has all its readings; whether the
+    /// cycle before it was compared to another one.
+    fn depart(&mut self, index: usize, is_compared: bool) {
         if self.course.is_some() {
             return;
         }
@@ -203,7 +205,7 @@ impl<A: Allocator> Current<A> {
         self.calm = 0;
         self.course = Some(Course {
             row: index,
-            before,
+            before: if is_compared { Some(before) } else { None },
             above: 0.0,
             greatest: 0.0,
         });
@@ -227,7 +229,7 @@ impl<A: Allocator> Current<A> {
         if let Some(course) = self.course {
             if self.courses.is_empty() || 0.0 < course.above {
                 self.courses.push(Course {
-                    before: course.before.sqrt(),
+                    before: course.before.map(|square| square.sqrt()),
                     greatest: course.greatest.sqrt(),
                     ..course
                 })?;
@@ -249,7 +251,7 @@ impl<A: Allocator> Current<A> {
         let square = self.slide(place, length, now, near);
         let departs = self.departs(place, length, now, near);
         if departs {
-            self.depart(place.index);
+            self.depart(place.index, length.twice_back(place.row).is_some());
         }
         let Some(square) = square else {
             return Ok(());

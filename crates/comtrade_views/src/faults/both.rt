@@ -1,7 +1,7 @@
 //! What was measured before a fault and in it.
 
 use crate::cycles::{
-    MeasureFault, Measured, Window, cycle_to, measures_of, reference_in, spans_of,
+    MeasureFault, Measured, Window, cycle_ahead, cycle_to, measures_of, reference_in, spans_of,
 };
 use comtrade_format::File;
 use comtrade_values::Memory;
@@ -23,15 +23,6 @@ pub(crate) fn measured_over<A: Allocator + Copy>(
         Ok(measures) => Ok(measures),
         Err(MeasureFault::Memory(_)) => Err(Memory),
         Err(_) => Ok(Vec::new(alloc)),
-    }
-}
-
-/// The cycle before the last one before a row, or the last one where there is no other.
-fn cycle_before(spans: &[Window], row: usize) -> Option<Window> {
-    let last = cycle_to(spans, row)?;
-    match cycle_to(spans, last.from) {
-        Some(window) => Some(window),
-        None => Some(last),
     }
 }
 
@@ -63,7 +54,7 @@ fn earlier_than(spans: &[Window], inception: usize, last: Window) -> Option<Wind
 fn cycles_around(spans: &[Window], inception: usize, end: usize) -> Cycles {
     let last = cycle_within(spans, inception, end);
     Cycles {
-        before: cycle_before(spans, inception),
+        before: cycle_ahead(spans, inception),
         last,
         earlier: last.and_then(|last| earlier_than(spans, inception, last)),
     }

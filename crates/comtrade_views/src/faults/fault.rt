@@ -9,6 +9,7 @@ use crate::faults::parts::{
 use crate::faults::phasors::phasors_of;
 use crate::faults::place::located_of;
 use crate::faults::signs::signs_of;
+use crate::faults::witness::{Witness, witness_of};
 use crate::faults::words::{
     EVOLVES, MISSING, OLDER, RATIO, VOLTAGES, level_words, phases_of, type_name, type_words,
 };
@@ -45,6 +46,7 @@ fn evolves(fault: FaultType, risen: (bool, bool, bool)) -> bool {
 fn doubts_of(
     alloc: Global,
     disturbance: Disturbance,
+    witness: Witness,
     is_evolving: bool,
 ) -> Result<Vec<String>, AllocError> {
     let doubts = disturbance.doubts;
@@ -65,7 +67,7 @@ fn doubts_of(
         list.push(String::from_str(alloc, MISSING)?)?;
     }
     if doubts.level {
-        list.push(String::from_str(alloc, level_words(disturbance.evidence))?)?;
+        list.push(String::from_str(alloc, level_words(witness))?)?;
     }
     Ok(list)
 }
@@ -112,10 +114,11 @@ pub(crate) fn fault_members<A: Allocator + Copy>(
     let phasors = phasors_of(alloc, file, place, &both)?;
     let is_evolving = evolves(known.fault, phasors.risen);
     let located = located_of(source, known, &both, is_evolving)?;
+    let witness = witness_of(file.head.analog.items(), known.found);
     Ok(FaultMembers {
         fault: String::from_str(alloc, type_name(known.fault))?,
         phases: String::from_str(alloc, type_words(known.fault))?,
-        doubts: doubts_of(alloc, disturbance, is_evolving)?,
+        doubts: doubts_of(alloc, disturbance, witness, is_evolving)?,
         instant: instant_of(source, inception)?,
         inception_ms: millis_at(source.times, inception),
         inception_row: ordinal(inception),

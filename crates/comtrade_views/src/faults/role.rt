@@ -1,5 +1,7 @@
 //! What a status channel tells, by the words in its name.
 
+use crate::faults::wording::has_one;
+
 /// What a status channel tells of a fault.
 #[derive(Clone, Copy, Debug, PartialEq, Eq)]
 pub(crate) enum Role {
@@ -15,36 +17,55 @@ pub(crate) enum Role {
     Reclose,
 }
 
-/// Whether a text contains a word of ASCII letters, in upper or lower case.
-fn has_word(text: &[u8], word: &[u8]) -> bool {
-    for at in 0..text.len() {
-        if let Some(part) = text[at..].get(..word.len()) {
-            if part.eq_ignore_ascii_case(word) {
-                return true;
-            }
-        }
-    }
-    false
-}
+/// Words of supervision and of commands that are kept back, which tell no trip, and those that say
+/// that something is not so.
+const NOT: [&str; 14] = [
+    "block*",
+    "superv*",
+    "fail*",
+    "alarm*",
+    "circuit*",
+    "no trip*",
+    "not trip*",
+    "non trip*",
+    "no start*",
+    "no pick*",
+    "no reclos*",
+    "not reclos*",
+    "not open*",
+    "not closed",
+];
 
-/// Whether a text contains one of these words.
-fn has_one(text: &[u8], words: &[&str]) -> bool {
-    for word in words {
-        if has_word(text, word.as_bytes()) {
-            return true;
-        }
-    }
-    false
-}
+const RECLOSE: [&str; 5] = [
+    "reclos*",
+    "autoreclos*",
+    "ar close",
+    "79 close",
+    "close cmd",
+];
 
-/// Words of supervision and of commands that are kept back, which tell no trip.
-const NOT: [&str; 5] = ["block", "superv", "fail", "alarm", "circuit"];
+const TRIP: [&str; 9] = [
+    "trip",
+    "trips",
+    "tripped",
+    "tripping",
+    "tripa",
+    "tripb",
+    "tripc",
+    "intertrip*",
+    "*ausl*",
+];
 
-const RECLOSE: [&str; 4] = ["reclos", "ar close", "79 close", "close cmd"];
-
-const TRIP: [&str; 2] = ["trip", "ausl"];
-
-const START: [&str; 5] = ["start", "pickup", "pick-up", "pick up", "anreg"];
+const START: [&str; 8] = [
+    "start",
+    "started",
+    "starting",
+    "pickup",
+    "pickups",
+    "pick up",
+    "picked up",
+    "*anreg*",
+];
 
 const BREAKER: [&str; 3] = ["cb", "breaker", "52"];
 
@@ -62,7 +83,7 @@ pub(crate) fn role_of(name: &[u8]) -> Option<Role> {
     if has_one(name, &START) {
         return Some(Role::Start);
     }
-    if has_one(name, &["52b"]) || has_one(name, &BREAKER) && has_one(name, &["open"]) {
+    if has_one(name, &["52b"]) || has_one(name, &BREAKER) && has_one(name, &["open", "opened"]) {
         return Some(Role::Open);
     }
     if has_one(name, &["52a"]) || has_one(name, &BREAKER) && has_one(name, &["closed"]) {

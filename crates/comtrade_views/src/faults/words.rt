@@ -1,7 +1,8 @@
 //! The words for fault types, causes and doubts.
 
+use crate::faults::witness::Witness;
 use comtrade_distance::Loop;
-use comtrade_fault::{Cause, Doubts, Evidence, FaultType};
+use comtrade_fault::{Cause, Doubts, FaultType};
 
 /// The name of a fault type.
 pub(crate) fn type_name(fault: FaultType) -> &'static str {
@@ -80,15 +81,24 @@ pub(crate) const MISSING: &str = "samples are missing around the inception";
 /// That there are no voltages.
 pub(crate) const NO_VOLTAGES: &str = "there are no voltages to confirm it";
 
+/// That the voltages cannot be compared with one another.
+pub(crate) const UNLIKE_VOLTAGES: &str =
+    "the factors of the voltages differ in sign or have too many digits, so they confirm nothing";
+
+/// That the voltages were dead.
+pub(crate) const DEAD_VOLTAGES: &str =
+    "the voltages were dead before it, less than half of those after, so they confirm nothing";
+
 /// That the voltages change little.
 pub(crate) const LEVEL: &str = "the voltages change hardly enough for a fault";
 
 /// The words for a doubt on how much the voltages change.
-pub(crate) fn level_words(evidence: Evidence) -> &'static str {
-    if evidence.voltages.is_some() {
-        LEVEL
-    } else {
-        NO_VOLTAGES
+pub(crate) fn level_words(witness: Witness) -> &'static str {
+    match witness {
+        Witness::Absent => NO_VOLTAGES,
+        Witness::Unlike => UNLIKE_VOLTAGES,
+        Witness::Dead => DEAD_VOLTAGES,
+        Witness::Live => LEVEL,
     }
 }
 

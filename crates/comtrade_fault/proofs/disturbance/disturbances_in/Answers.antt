@@ -6,8 +6,8 @@ use Rattle.comtrade_fault.proofs.disturbance.disturbances_in.Goals as goal
 
 pub returns-in_default : goal.returns-in_default
 returns-in_default g c =
-    let i = course c.args.scans.now c.args.weights in
-    let v = course c.args.voltages.now c.args.voltage_weights in
+    let i = course c.args.scans.now c.args.weights c.args.remainder in
+    let v = course c.args.voltages.now c.args.voltage_weights c.args.remainder in
     let left = length c.args.scans.now - c.loop-i.i in
     chain_none i v c.of-bounds.result c.args.cycle left c.loop-i.from c.loop-i.found.items (disturbances i v c.args.cycle)
     (sym c.next_from-next.ensures.value ∙ c.in_default.is)
@@ -15,8 +15,8 @@ returns-in_default g c =
 
 pub returns-in_default-resumed : goal.returns-in_default-resumed
 returns-in_default-resumed g c =
-    let i = course c.args.scans.now c.args.weights in
-    let v = course c.args.voltages.now c.args.voltage_weights in
+    let i = course c.args.scans.now c.args.weights c.args.remainder in
+    let v = course c.args.voltages.now c.args.voltage_weights c.args.remainder in
     let rows = length c.args.scans.now in
     c.in_ok-push.ensures.items
     ∙ chain_last i v c.of-bounds.result c.args.cycle (rows - (c.loop-i.i + 1)) (rows - c.loop-i.i) c.loop-i.from c.loop-i.found.items
@@ -26,8 +26,8 @@ returns-in_default-resumed g c =
 
 pub loop-i-preserved : goal.loop-i-preserved
 loop-i-preserved g c =
-    let i = course c.args.scans.now c.args.weights in
-    let v = course c.args.voltages.now c.args.voltage_weights in
+    let i = course c.args.scans.now c.args.weights c.args.remainder in
+    let v = course c.args.voltages.now c.args.voltage_weights c.args.remainder in
     let rows = length c.args.scans.now in
     let b = c.of-bounds.result in
     record {
