@@ -68,8 +68,10 @@ fn others_in<A: Allocator + Copy>(
     let mut others = Vec::new(source.alloc);
     for found in all {
         if let (Kind::Other(cause), Some(row)) = (found.disturbance.kind, inception_of(found)) {
+            let has_voltages = found.disturbance.evidence.voltages.is_some();
+            let what = cause_words(cause, has_voltages);
             others.push(OtherMembers {
-                what: String::from_str(source.alloc, cause_words(cause))?,
+                what: String::from_str(source.alloc, what)?,
                 doubtful: has_doubt(found.disturbance.doubts),
                 ms: millis_at(source.times, row),
                 row: ordinal(row),

@@ -51,14 +51,15 @@ pub(crate) fn phases_of(fault: FaultType) -> (bool, bool, bool) {
     }
 }
 
-/// What a disturbance is that is no fault.
-pub(crate) fn cause_words(cause: Cause) -> &'static str {
+/// What a disturbance is that is no fault; whether live voltages tell of it.
+pub(crate) fn cause_words(cause: Cause, has_voltages: bool) -> &'static str {
     match cause {
         Cause::Inrush => "inrush: a quarter of the current or more is second harmonic",
         Cause::Drop => {
             "load falls, poles open, or a fault ends whose inception is not seen: no current rises"
         },
-        Cause::Load => "load rises: the voltages do not dip as in a fault",
+        Cause::Load if has_voltages => "load rises: the voltages do not dip as in a fault",
+        Cause::Load => "load rises: no current is twice that before, and no voltages tell more",
     }
 }
 
