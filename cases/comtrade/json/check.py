@@ -109,7 +109,7 @@ def main(comtrade, stems):
         whole = show(record, lines)
         equal(f"show {name}", whole, said(comtrade, "show", "--json", stem))
         equal(f"list {name}", {"records": [listed(record, whole, stem)], "faults": []}, said(comtrade, "list", "--json", stem))
-        equal(f"events {name}", {"events": list(events(record))}, said(comtrade, "events", "--json", stem))
+        equal(f"events {name}", {"events": list(events(record)), "faults": []}, said(comtrade, "events", "--json", stem))
 
 
 main(sys.argv[1], sys.argv[2:])

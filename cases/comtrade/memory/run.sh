@@ -1,5 +1,5 @@
-# each allocation of each command refused in turn: status 1 and `comtrade: out of memory`, and before it a front of what is printed
-# otherwise and no half pair of files; or all is as it is otherwise, where the program made up for it
+# each allocation of each command refused in turn: status 1 and `comtrade: out of memory`, before it what standard error has otherwise or
+# nothing, a front of what is printed otherwise and no half pair of files; or all is as it is otherwise, where the program made up for it
 folder=$(mktemp -d)
 trap 'rm -r "$folder"' EXIT
 most=2000
@@ -23,6 +23,7 @@ as_wanted() { # the status, the output and the standard error of a run that isn'
     are_pairs || return 1
     [ "$status $out $err" = "$1 $2 $3" ] && return 0
     [ "$status" = 1 ] && [[ $2 == "$out"* ]] || return 1
+    err=${err#"$3"$'\n'}
     [[ $err == 'comtrade: out of memory' || $err == 'comtrade: out of memory'$'\n''comtrade: '*' written'* ]]
 }
 refused() { # what is tried, standard input, the program's words

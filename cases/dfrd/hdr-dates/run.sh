@@ -1,4 +1,5 @@
-# what a header says of its record's instants: before the converter told the time they are those of the machine's clock
+# what a header says of its record's instants: before the converter told the time they are those of the machine's clock. The files stand by
+# their dates, and the converter's is an old one
 . files/dfrd.bash
 sed 's/^limits .*/limits 2,2,6,8/' dfr/replay/first/in > "$work/setup"
 scans() { for _ in $(seq "$1"); do echo scan 1/; done; }
