@@ -1,5 +1,5 @@
 """Clean faults at 50 Hz, without noise and dc: at rates of which a cycle has a whole number of rows, or none; of a line that was dead before; without
-voltages; and faults that begin within the first cycle of a rate."""
+voltages; faults that begin within the first cycle of a rate; and load that rises."""
 
 import cmath
 import math
@@ -57,6 +57,8 @@ def main():
     write(folder, "at-first", [(1000, 200)], 10, AG)
     write(folder, "at-change", [(1000, 100), (2000, 300)], 110, AG)
     write(folder, "later", [(1000, 200)], 65, AG)
+    for name, has_volts in (("load", True), ("load-blind", False)):
+        write(folder, name, [(1000, 200)], 100, (LOAD, balanced(1.6)), has_volts=has_volts)
 
 
 main()

@@ -1,5 +1,5 @@
 # clean faults are not doubted where a cycle has no whole number of rows; voltages of a dead line are not told as none; contacts are found by whole
-# words; the current before a fault that begins within the first cycle of a rate is not known. Skipped where python3 isn't there
+# words; the current before a fault that begins within the first cycle of a rate is not known; why rising load is no fault. Skipped where python3 isn't there
 exec 2>&1
 command -v python3 > /dev/null || { echo "python3 isn't here" >&2; exit 77; }
 folder=$(mktemp -d)
@@ -25,4 +25,10 @@ for name in at-first at-change later; do
 import json, sys
 it = json.load(sys.stdin)['currents'][0]
 print('$name:', it['rms_before'] and round(it['rms_before']), it['left_row'] is not None, it['above_ms'] is not None)"
+done
+for name in load load-blind; do
+    "$comtrade" fault --json "$folder/$name" | python3 -c "
+import json, sys
+it = json.load(sys.stdin)['records'][0]
+print('$name:', len(it['faults']), [other['what'] for other in it['others']])"
 done
