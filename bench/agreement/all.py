@@ -70,21 +70,23 @@ def with_picture(comtrade, names, show, rows, csv):
     yield from pictures.with_picture(picture, show, rows)
     yield from pictures.with_bars(picture, show, rows)
     yield from traces.with_traces(out, show, rows)
-    row = inception_of(comtrade, names, rows)
+    row, is_inception = border_of(comtrade, names, rows)
     if row is not None:
-        yield from pictures.with_levels(picture, show, rows, row)
+        yield from pictures.with_levels(picture, show, rows, row, is_inception)
     if said != csv.said:
         yield "plot tells other notes than csv: %r, %r" % (said, csv.said)
 
 
-def inception_of(comtrade, names, rows):
-    """The index of the row around which `plot` gives rms values: the first inception of a current,
-    or the trigger."""
+def border_of(comtrade, names, rows):
+    """The index of the row around which `plot` gives rms values, and whether it is the first
+    inception of a current; else it is the trigger."""
     status, out, _ = run(comtrade, "measure", "--json", *names)
     left = [c["left_row"] for c in json.loads(out)["currents"]
             if c["left_row"] is not None] if status == 0 else []
     later = [i for i, ms in enumerate(rows.millis) if ms >= 0]
-    return min(left) - 1 if left else (later[0] if later else None)
+    if left:
+        return min(left) - 1, True
+    return later[0] if later else None, False
 
 
 def with_page(comtrade, names, show, rows, csv, measured, folder):

@@ -94,9 +94,13 @@ def with_currents(made, show, rows):
                        rows.millis[left - 1])
         ends = {end: rms(values[end - int(cycle):end]) for end in range(left - 1, rows.count + 1)
                 if end >= cycle}
-        if not near(current["rms_before"], ends[left - 1], 1e-9):
-            yield told("measure rms_before of %s" % current["id"], current["rms_before"],
-                       ends.pop(left - 1))
+        # (where there is no other cycle before it, the fault may have begun in the last one)
+        is_known = left - 1 >= 2 * int(cycle)
+        before = ends[left - 1] if is_known else None
+        if not near(current["rms_before"], before, 1e-9):
+            yield told("measure rms_before of %s" % current["id"], current["rms_before"], before)
+        if (current["above_ms"] is not None) != is_known:
+            yield told("measure above_ms of %s" % current["id"], current["above_ms"], before)
         # (the greatest until the current keeps to a waveform again)
         if not any(near(current["rms_greatest"], size, 1e-9) for end, size in ends.items()
                    if end >= left):

@@ -9,11 +9,11 @@ from views import sized
 MOST_PEAKS = 12
 
 
-def around(values, row, cycle):
-    """The rms values before and after a row: of the last but one cycle before it, or the last, and
-    of the next one."""
+def around(values, row, cycle, is_inception):
+    """The rms values before and after a row: of the last but one cycle before it, and of the next
+    one. Before a trigger the last one does where there is no other; a fault may begin in it."""
     before = after = None
-    for end in (row - cycle, row):
+    for end in (row - cycle,) if is_inception else (row - cycle, row):
         if end - cycle >= 0 and before is None:
             before = rms(values[end - cycle:end])
     if row + cycle <= len(values):
@@ -29,7 +29,7 @@ def is_level(text, unit, wanted):
         return False
 
 
-def with_levels(picture, show, rows, row):
+def with_levels(picture, show, rows, row, is_inception):
     """The rms values in `plot` around an inception or a trigger, where a cycle has a whole number
     of rows."""
     cycle = only_cycle(show)
@@ -41,8 +41,8 @@ def with_levels(picture, show, rows, row):
         named = [k for k, channel in enumerate(show["analog"]) if channel["id"].endswith(name)]
         if any(None in rows.values[k] for k in named):
             continue
-        sets = [[value for value in around(rows.values[k], row, int(cycle)) if value is not None]
-                for k in named]
+        sets = [[value for value in around(rows.values[k], row, int(cycle), is_inception)
+                 if value is not None] for k in named]
         if not any(len(parts) == len(wanted)
                    and all(is_level(part, show["analog"][k]["unit"], one)
                            for part, one in zip(parts, wanted))
