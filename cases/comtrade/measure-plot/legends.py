@@ -23,6 +23,12 @@ def main(comtrade, stem, before, after):
     legends = re.findall(r">(peak -?[^<;]*)</text>", svg)
     one, other = measured(comtrade, stem, before), measured(comtrade, stem, after)
     for legend, wanted, later in zip(legends, one, other):
+        alone = re.search(rf"rms {NUMBER} after", legend)
+        if alone:
+            # (the fault may have begun in the cycle before it)
+            same = abs(value(*alone.groups()) / later - 1) < 6e-4
+            print(f"{legend}: {'as measure' if same else f'measure says {later:.6g}'}")
+            continue
         found = re.search(rf"rms {NUMBER} \u2192 {NUMBER}", legend)
         if not found:
             print(f"{legend}: measure says {wanted:.6g}, {later:.6g}")
