@@ -79,6 +79,10 @@ class Judge:
 
     def plainly(self, answer, files, keys):
         found = read_plainly(files, keys | {"padding"})
+        if not found and "years-2-digits" in keys:
+            # (a year of two digits in a file of 1999: the model refuses it, and a note tells of it)
+            self.seen["read, repairs told"] += 1
+            return
         if not found:
             yield "csv reads files that aren't plain, and tells %s" % (sorted(keys) or "nothing")
             return
