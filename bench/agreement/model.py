@@ -19,8 +19,8 @@ DATE = re.compile(rb"([0-9]{1,2})/([0-9]{1,2})/([0-9]{4})")
 DATE_1991 = re.compile(rb"([0-9]{1,2})/([0-9]{1,2})/([0-9]{2}|[0-9]{4})")
 TIME = re.compile(rb"([0-9]{1,2}):([0-9]{1,2}):([0-9]{1,2})(?:\.([0-9]{1,6}))?")
 # (blanks have no meaning, and are not told)
-SECTION = re.compile(rb"--- +file +type: +([A-Z]{3})(?: +([A-Z0-9]+))?(?:: *([0-9]+))? +---\r?\n",
-                     re.I)
+SECTION = re.compile(rb"--- +file +type: +([A-Z]{3})(?: +([A-Z0-9]+))?(?:: *([0-9]+))?"
+                     rb" +---[ \t]*\r?\n", re.I)
 EPOCH = datetime.date(1970, 1, 1)
 TEN_DIGITS, BIG = 9999999999, 10 ** 36
 
